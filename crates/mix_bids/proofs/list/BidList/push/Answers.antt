@@ -1,0 +1,17 @@
+use Rattle.std.proofs.Common.{arith, ℕ, length, ap, subst, sym, ◌∷◌, [], length-append}
+use Rattle.std.proofs.lemmas.List.Elements.{All-push, All-same}
+use Rattle.mix_bids.specs.Bids.{IsBid}
+use Rattle.mix_bids.proofs.list.BidList.push.Goals as goal
+
+pub invariant_of-self-2 : goal.invariant_of-self-2
+invariant_of-self-2 c =
+    let i = c.self.invariant in
+    let e = c.in-Ok.ensures.items in
+    let v = c.self.view_is in
+    let r = c.requires.room in
+    let n = c.self.inside.goods in (
+      i.0,
+      i.1,
+      omega (arith, ap length e, length-append c.self.inside.bids.items (c.args.bid ∷ []), ap (λ z. length z.bids) v),
+      All-same (IsBid n) _ _ e (All-push (IsBid n) _ _ i.3 (subst (λ (g : ℕ). IsBid g c.args.bid) (sym (ap (λ z. z.goods) v)) c.requires.bid)),
+    )

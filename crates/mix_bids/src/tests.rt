@@ -1,0 +1,86 @@
+// Bids and a list with a negative bid, worked out by hand.
+ghost use Rattle.std.specs.Prelude.{◌≡◌, ◌<◌, ◌∷◌, [], suc, length, IfOk, OnOk};
+ghost use Rattle.mix_num.specs.Ranges.{ArePrices, Lies};
+ghost use Rattle.mix_bids.specs.Bids.{IsBid};
+
+use crate::{Bid, BidList, Values, best_set};
+use mix_num::{Memory, Prices, Set};
+use std::alloc::Global;
+use std::test::Fail;
+
+/// Prices of two goods.
+fn prices(first: i64, second: i64) -> Prices
+    requires first { Lies 4000000 first }
+    requires second { Lies 4000000 second }
+    ensures { ArePrices 2 result.items }
+{
+    let mut prices = Prices::new();
+    prices.push(first);
+    prices.push(second);
+    prices
+}
+
+/// A bid over two goods.
+fn bid(weight: i64, first: Option<i64>, second: Option<i64>) -> Bid
+    ensures { result ≡ record { weight = weight; values = record { items = first ∷ second ∷ [] } } }
+{
+    let mut values = Values::new();
+    values.push(first);
+    values.push(second);
+    Bid { weight, values }
+}
+
+/// Adds a bid to a list over two goods.
+fn add(list: &mut BidList, bid: Bid) -> Result<(), Memory>
+    requires goods { list.old.goods ≡ 2 }
+    requires bid { IsBid 2 bid }
+    requires room { length list.old.bids < 400 }
+    ensures goods { OnOk result (list.new.goods ≡ 2) }
+    ensures size { OnOk result (length list.new.bids ≡ suc (length list.old.bids)) }
+{
+    list.push(bid)
+}
+
+/// The bids (4, -; 1), (-, 4; 1), (6, 6; 1) and (4, 4; -1).
+fn four(alloc: Global) -> Result<BidList, Memory>
+    ensures { IfOk result (λ list. list.goods ≡ 2) }
+{
+    let mut list = BidList::new(alloc, 2);
+    add(&mut list, bid(1, Some(4), None))?;
+    add(&mut list, bid(1, None, Some(4)))?;
+    add(&mut list, bid(1, Some(6), Some(6)))?;
+    add(&mut list, bid(-1, Some(4), Some(4)))?;
+    Ok(list)
+}
+
+#[test]
+fn best_sets(rt: HostRuntime) {
+    let first = bid(1, Some(4), None);
+    assert_eq!(rt; best_set(&first, &prices(3, 0)).bits(), 0b010);
+    assert_eq!(rt; best_set(&first, &prices(4, 0)).bits(), 0b011);
+    assert_eq!(rt; best_set(&first, &prices(5, 0)).bits(), 0b001);
+}
+
+#[test]
+fn sums(rt: HostRuntime) -> Result<(), Fail> {
+    let list = four(rt.alloc())?.copy(rt.alloc())?;
+    assert_eq!(rt; list.total(), 2);
+    assert_eq!(rt; list.top(2), 6);
+
+    let tie = prices(4, 4);
+    assert_eq!(rt; list.utility(&tie), 2);
+    assert_eq!(rt; list.facet_weight(0, 1, &tie), 1);
+    assert_eq!(rt; list.facet_weight(1, 2, &tie), 1);
+
+    let low = prices(3, 3);
+    assert_eq!(rt; list.utility(&low), 4);
+    assert_eq!(rt; list.facet_weight(1, 2, &low), 0);
+
+    let sold = prices(4, 0);
+    assert_eq!(rt; list.utility(&sold), 6);
+    assert_eq!(rt; list.facet_weight(0, 1, &sold), 1);
+    assert_eq!(rt; list.facet_weight(0, 2, &sold), 0);
+    assert_eq!(rt; list.fall(&sold, Set::from_bits(0b100)), 1);
+    assert_eq!(rt; list.gain_down(&sold, Set::from_bits(0b010)), 1);
+    Ok(())
+}

@@ -1,0 +1,8 @@
+//! Tables of members, and the test whether a bundle is demanded.
+#![tactic(auto)]
+
+mod demand;
+mod rho;
+
+pub use demand::{demanded_where_fits, is_demanded};
+pub use rho::{Rho, add_numbers, rho_of, sum_into};

@@ -1,0 +1,17 @@
+pub mod Exacts
+pub mod Counts
+pub mod Members
+pub mod Moves
+pub mod Placings
+pub mod NullLeads
+pub mod PointPrices
+pub mod AllBelow
+pub mod Numberings
+pub mod Leasts
+pub mod Steps
+pub mod Weighing
+pub mod Places
+pub mod LevelLists
+pub mod CandidateLists
+pub mod Sizes
+pub mod Conclusions

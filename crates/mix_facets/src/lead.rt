@@ -1,0 +1,61 @@
+// By how much a bid values one choice above another.
+ghost use Rattle.std.specs.Prelude.{◌≡◌, ℤ, ◌≤◌, length, Some};
+ghost use Rattle.mix_num.specs.Ranges.{Lies};
+ghost use Rattle.mix_bids.specs.Bids.{IsBid};
+ghost use Rattle.mix_bids.specs.Offers.{AreOffers, IsOffer, offer as offer_of};
+ghost use Rattle.mix_facets.specs.Leads.{lead as lead_between, lead_of, negative_lead as negative_lead_of};
+
+use mix_bids::{Bid, Values};
+
+/// What is offered for a choice: 0 for the null choice, else the value of the good, if it has one.
+fn offer(values: &Values, choice: usize) -> Option<i64>
+    requires choice { choice ≤ length values.now.items }
+    requires offers { AreOffers (length values.now.items) values.now.items }
+    ensures value { result ≡ offer_of values.now.items choice }
+    ensures range { IsOffer result }
+{
+    if choice == 0 {
+        Some(0)
+    } else {
+        values[choice - 1]
+    }
+}
+
+/// One offer less another, if both are made.
+fn margin(greater: Option<i64>, lesser: Option<i64>) -> Option<i64>
+    requires greater { IsOffer greater }
+    requires lesser { IsOffer lesser }
+    ensures value { result ≡ lead_between greater lesser }
+    ensures range { (v : ℤ) → result ≡ Some v → Lies 1000000 v }
+{
+    match (greater, lesser) {
+        (Some(greater), Some(lesser)) => Some(greater - lesser),
+        _ => None,
+    }
+}
+
+/// By how much a bid values `choice` above `over`, from -1,000,000 to 1,000,000, if it offers both.
+pub(crate) fn lead(bid: &Bid, choice: usize, over: usize) -> Option<i64>
+    requires choice { choice ≤ length bid.now.values.items }
+    requires over { over ≤ length bid.now.values.items }
+    requires bid { IsBid (length bid.now.values.items) bid.now }
+    ensures value { result ≡ lead_of bid.now choice over }
+    ensures range { (v : ℤ) → result ≡ Some v → Lies 1000000 v }
+{
+    margin(offer(&bid.values, choice), offer(&bid.values, over))
+}
+
+/// The same for a bid of negative weight, and None for any other.
+pub(crate) fn negative_lead(bid: &Bid, choice: usize, over: usize) -> Option<i64>
+    requires choice { choice ≤ length bid.now.values.items }
+    requires over { over ≤ length bid.now.values.items }
+    requires bid { IsBid (length bid.now.values.items) bid.now }
+    ensures value { result ≡ negative_lead_of bid.now choice over }
+    ensures range { (v : ℤ) → result ≡ Some v → Lies 1000000 v }
+{
+    if bid.weight < 0 {
+        lead(bid, choice, over)
+    } else {
+        None
+    }
+}

@@ -1,0 +1,19 @@
+//! Levels and grids: the finitely many points at which the facet weights of a list decide whether any is negative.
+#![tactic(auto)]
+
+mod candidates;
+mod grid;
+mod lead;
+mod level;
+mod levels;
+mod numbers;
+mod point;
+#[cfg(test)]
+mod tests;
+mod weight;
+
+pub use grid::{Grid, grid_of};
+pub use level::Level;
+pub use levels::{Levels, levels_of};
+pub use point::{Point, price_of};
+pub use weight::weight_at;

@@ -1,0 +1,72 @@
+-- Linear functions, and what is kept where one is added, or where two functions are.
+use mathlib.Core.Path.{fun_ext}
+use Rattle.std.proofs.Common.{Bool, true, false, cond, ◌≡◌, ℕ, zero, suc, ◌<◌, ℤ, pos, ◌+ℤ◌, ◌-ℤ◌, ◌*ℤ◌, ◌≤ℤ◌, refl, arith, ap}
+use Rattle.std.proofs.lemmas.Int.{ints}
+use Rattle.std.proofs.Math.IntN.{*ℤ_comm}
+use Rattle.mix_num.specs.Vectors.{Vector, Choices, bit, plus, only, shifted, ray, sum_to, dot_to}
+use Rattle.mix_num.proofs.Products.{*ℤ-sum, *ℤ-difference}
+use Rattle.mix_law.specs.Members.{KeepsLocal, fall_of, tilted}
+
+-- a linear function reads the first m entries
+pub dot_same : (m : ℕ) (q x y : Vector) → ((k : ℕ) → k < m → x k ≡ y k) → dot_to m q x ≡ dot_to m q y
+dot_same zero q x y h = refl
+dot_same (suc m) q x y h =
+    let a = dot_same m q x y (λ k l. h k (omega arith)) in
+    let b = ap (λ z. q m *ℤ z) (h m (omega arith)) in
+    omega (arith, ints)
+
+-- it gains what is added to the entries
+pub dot_plus : (m : ℕ) (q x d : Vector) → dot_to m q (λ k. x k +ℤ d k) ≡ dot_to m q x +ℤ dot_to m q d
+dot_plus zero q x d = omega (arith, ints)
+dot_plus (suc m) q x d = let a = dot_plus m q x d in let b = *ℤ-sum (q m) (x m) (d m) in omega (arith, ints)
+
+pub dot_shifted : (m : ℕ) (q x : Vector) (k : ℤ) → dot_to m q (shifted x k) ≡ dot_to m q x +ℤ (k *ℤ sum_to m q)
+dot_shifted zero q x k = omega (arith, ints)
+dot_shifted (suc m) q x k =
+    let a = dot_shifted m q x k in
+    let b = *ℤ-sum (q m) (x m) k in
+    let d = *ℤ-sum k (sum_to m q) (q m) in
+    let e = *ℤ_comm k (q m) in
+    omega (arith, ints)
+
+-- a linear function added takes the sum of its coefficients from the total
+pub plus_linear : {n : ℕ} {f : Vector → ℤ} {w : ℤ} (q : Vector) → KeepsLocal n f w → KeepsLocal n (tilted n f q) (w -ℤ sum_to (suc n) q)
+plus_linear {n} {f} {w} q c = record {
+  reads = λ x y h. let a = c.reads x y h in let b = dot_same (suc n) q x y (λ k l. h k (omega arith)) in omega (arith, ints);
+  shift = λ x k. let d = *ℤ-difference k w (sum_to (suc n) q) in let a = c.shift x k in let b = dot_shifted (suc n) q x k in omega (arith, ints);
+  local = λ x i j a b d.
+      let h = c.local x i j a b d in
+      let e = dot_plus (suc n) q (plus x (only i)) (λ k. bit (only j k)) in
+      let u = dot_plus (suc n) q x (λ k. bit (only i k)) in
+      let v = dot_plus (suc n) q x (λ k. bit (only j k)) in
+      omega (arith, ints);
+}
+
+-- two functions added
+pub sum_keeps : {n : ℕ} {f g : Vector → ℤ} {v w : ℤ} → KeepsLocal n f v → KeepsLocal n g w → KeepsLocal n (λ x. f x +ℤ g x) (v +ℤ w)
+sum_keeps {n} {f} {g} {v} {w} c d = record {
+  reads = λ x y h. let a = c.reads x y h in let b = d.reads x y h in omega (arith, ints);
+  shift = λ x k. let a = c.shift x k in let b = d.shift x k in let e = *ℤ-sum k v w in omega (arith, ints);
+  local = λ x i j a b e. let h = c.local x i j a b e in let k = d.local x i j a b e in omega (arith, ints);
+}
+
+-- two functions that fall equally at each of m steps along a set: their sum does too
+pub sum_of_steps : (f g : Vector → ℤ) (x : Vector) (m : ℕ) (s : Choices) → f (ray x m s) ≡ f x -ℤ (pos m *ℤ fall_of f x s) → g (ray x m s) ≡ g x -ℤ (pos m *ℤ fall_of g x s) → f (ray x m s) +ℤ g (ray x m s) ≡ (f x +ℤ g x) -ℤ (pos m *ℤ fall_of (λ y. f y +ℤ g y) x s)
+sum_of_steps f g x m s e d =
+    let i : fall_of (λ y. f y +ℤ g y) x s ≡ fall_of f x s +ℤ fall_of g x s = omega (arith, ints) in
+    let j = ap (λ z. pos m *ℤ z) i in
+    let h = *ℤ-sum (pos m) (fall_of f x s) (fall_of g x s) in
+    omega (arith, ints)
+
+-- one step of a set, or none, is a fall by equal steps whatever the function
+pub step_of_one : (f : Vector → ℤ) (x : Vector) (s : Choices) (m : ℕ) → pos m ≤ℤ pos 1 → f (ray x m s) ≡ f x -ℤ (pos m *ℤ fall_of f x s)
+step_of_one f x s zero h =
+    let e : ray x 0 s ≡ x = fun_ext (λ k. still (x k) (s k)) in
+    let p = ap f e in
+    omega (arith, ints)
+  where
+    still : (a : ℤ) (b : Bool) → a +ℤ cond b (pos 0) (pos 0) ≡ a
+    still a true = omega (arith, ints)
+    still a false = omega (arith, ints)
+step_of_one f x s (suc zero) h = omega (arith, ints)
+step_of_one f x s (suc (suc m)) h = absurd (omega (arith, ints))

@@ -1,0 +1,4 @@
+pub mod Members
+pub mod Totals
+pub mod Sums
+pub mod Demands

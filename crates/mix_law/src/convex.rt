@@ -1,0 +1,69 @@
+// What every member of the market can be asked, and the laws that its answers keep.
+ghost use Rattle.std.specs.Prelude.{◌≡◌, ◌≤◌, ℕ, ℤ, pos, false, ◌-ℤ◌, ◌*ℤ◌, ◌≤ℤ◌};
+ghost use Rattle.mix_num.specs.Vectors.{Vector, members, ray, with_null};
+ghost use Rattle.mix_num.specs.Ranges.{HaveRoom, Lies};
+ghost use Rattle.mix_law.specs.Members.{IsConvex, fall_of, rho};
+
+use mix_num::{Prices, Set};
+
+/// A member of the market: a convex function of the prices of all choices, the null choice's among them.
+///
+/// Prices have one entry for each good, from -3,999,999 to 3,999,999; the null choice's price is 0.
+pub trait Convex {
+    /// How many goods the member knows.
+    ghost size: { Self → ℕ };
+
+    /// By how much the function falls when all prices rise by one.
+    ghost weight: { Self → ℤ };
+
+    /// For each good a price from which on the member wants none.
+    ghost ceiling: { Self → ℕ → ℤ };
+
+    /// The function, over a price for each choice.
+    ghost function: { Self → Vector → ℤ };
+
+    ghost convex: { (member : Self) → IsConvex (size member) (function member) (weight member) (ceiling member) };
+
+    /// The number of goods, from 1 to 8.
+    fn goods(&self) -> usize
+        ensures value { result ≡ size self.now }
+        ensures range { (1 ≤ result) × (result ≤ 8) };
+
+    /// The total, from 0 to 8,000,000.
+    fn total(&self) -> i64
+        ensures value { result ≡ weight self.now }
+        ensures range { (pos 0 ≤ℤ result) × (result ≤ℤ pos 8000000) };
+
+    /// The price of a good from which on the member wants none, from -1,000,000 to 1,000,000.
+    fn top(&self, good: usize) -> i64
+        requires { (1 ≤ good) × (good ≤ size self.now) }
+        ensures value { result ≡ ceiling self.now good }
+        ensures range { Lies 1000000 result };
+
+    /// The function at the prices.
+    fn value(&self, prices: &Prices) -> i64
+        requires { HaveRoom (size self.now) prices.now.items }
+        ensures value { result ≡ function self.now (with_null prices.now.items) }
+        ensures range { (pos 0 ≤ℤ result) × (result ≤ℤ (weight self.now *ℤ pos 5000000)) };
+
+    /// By how much the function falls when each choice of the set rises by one.
+    fn fall(&self, prices: &Prices, set: Set) -> i64
+        requires { HaveRoom (size self.now) prices.now.items }
+        ensures value { result ≡ fall_of (function self.now) (with_null prices.now.items) (members set) }
+        ensures range { (pos 0 ≤ℤ result) × (result ≤ℤ weight self.now) };
+
+    /// By how much the function rises when each choice of the set falls by one.
+    fn gain_down(&self, prices: &Prices, set: Set) -> i64
+        requires { HaveRoom (size self.now) prices.now.items }
+        ensures value { result ≡ rho (function self.now) (with_null prices.now.items) (members set) }
+        ensures range { (pos 0 ≤ℤ result) × (result ≤ℤ weight self.now) };
+
+    /// A number of steps, from 1 to 8,000,000, over which a set of goods makes the function fall equally at each.
+    fn reach(&self, prices: &Prices, set: Set) -> i64
+        requires prices { HaveRoom (size self.now) prices.now.items }
+        requires goods { members set 0 ≡ false }
+        ensures range { (pos 1 ≤ℤ result) × (result ≤ℤ pos 8000000) }
+        ensures linear { (m : ℕ) → pos m ≤ℤ result →
+            function self.now (ray (with_null prices.now.items) m (members set))
+            ≡ function self.now (with_null prices.now.items) -ℤ (pos m *ℤ fall_of (function self.now) (with_null prices.now.items) (members set)) };
+}

@@ -1,0 +1,4 @@
+pub mod Products
+pub mod Masks
+pub mod UnitMoves
+pub mod Additions

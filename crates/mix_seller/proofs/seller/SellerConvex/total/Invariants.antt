@@ -1,0 +1,10 @@
+use Rattle.std.proofs.Common.{◌≡◌, suc, ◌*◌, pos, ◌≤ℤ◌}
+use Rattle.mix_num.specs.Vectors.{sum_to, with_null}
+use Rattle.mix_seller.proofs.seller.SellerConvex.total.Given as goal
+
+abbrev pub invariant-loop-k : goal.invariant-loop-k
+invariant-loop-k l = record {
+  so_far : l.sum ≡ sum_to l.k (λ j. with_null l.self.supply.items (suc j));
+  low : pos 0 ≤ℤ l.sum;
+  high : l.sum ≤ℤ pos (1000000 * l.k);
+}

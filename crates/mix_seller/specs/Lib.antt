@@ -1,0 +1,2 @@
+pub mod Sellers
+pub mod Laws

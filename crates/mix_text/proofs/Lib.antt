@@ -1,0 +1,16 @@
+mod Digits
+mod Entries
+mod Fields
+mod Marks
+pub mod PrintedNumbers
+mod PrintedRows
+pub mod ReadBack
+mod Records
+pub mod Spellings
+mod Turns
+mod Gathering
+mod Bids
+mod Keys
+mod Steps
+mod Sound
+pub mod SoundAuctions

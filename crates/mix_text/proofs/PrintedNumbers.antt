@@ -1,0 +1,69 @@
+-- A printed number: what it is made of, and what it spells.
+use Rattle.std.proofs.Common.{◌≡◌, ◌≢◌, ◌<◌, ◌^◌, ◌==◌, true, false, ℕ, zero, suc, ℤ, pos, negsuc, neg_ℤ, List, [], ◌∷◌, length, slice_index, nat_lt, ◌∙◌, ap, arith, rules, refl, Some}
+use Rattle.std.specs.List.{list_all}
+use Rattle.std.specs.Char.{is_ascii_digit}
+use Rattle.std.specs.Fmt.{decimal, signed_decimal}
+use Rattle.std.specs.Int.RustNames.{FitsSigned}
+use mir.Syntax.{w64}
+use Rattle.std.proofs.lemmas.Bool.Decides.{nat_tests}
+use Rattle.std.proofs.lemmas.Str.Parse.{IsNumeralModel, numerals_by_fold}
+use Rattle.std.proofs.lemmas.Fmt.{decimal_nonempty, digits_decimal, digits_value-decimal, first_decimal, decimal_digit}
+use Rattle.mix_text.specs.Spelling.{is_name_byte, is_plain, value_after, number_of}
+use Rattle.mix_text.specs.Pages.{is_printable}
+use Rattle.mix_text.proofs.Spellings.{negative_some, plain_some}
+
+own : IsNumeralModel (λ ds. list_all is_ascii_digit ds ≡ true) (value_after 0)
+own = numerals_by_fold _ (search rules) value_after (search rules)
+
+digits-name : (ds : List ℕ) → list_all is_ascii_digit ds ≡ true → list_all is_name_byte ds ≡ true
+digits-name [] h = refl
+digits-name (c ∷ cs) h =
+    let here : is_name_byte c ≡ true = grind (arith, nat_tests) in
+    let rest = digits-name cs (grind (arith, nat_tests)) in
+    rw (here, rest) refl
+
+decimal-name : (n : ℕ) → n < 2 ^ 64 → list_all is_name_byte (decimal n) ≡ true
+decimal-name n h = digits-name (decimal n) (digits_decimal own n h)
+
+printable-decimal : (n : ℕ) → n < 2 ^ 64 → is_printable (decimal n) ≡ true
+printable-decimal n h =
+    let some = decimal_nonempty n h in
+    let name = decimal-name n h in
+    grind (arith, nat_tests)
+
+minus-printable : (ds : List ℕ) → list_all is_name_byte ds ≡ true → is_printable (45 ∷ ds) ≡ true
+minus-printable ds h = let some : nat_lt 0 (length (45 ∷ ds)) ≡ true = grind (arith, nat_tests) in rw (some, h) refl
+
+-- a printed number may be printed as a field
+pub signed_printable : (z : ℤ) → FitsSigned w64 z → is_printable (signed_decimal z) ≡ true
+signed_printable (pos n) h = printable-decimal n (omega arith)
+signed_printable (negsuc n) h =
+    let lt : suc n < 2 ^ 64 = omega arith in
+    let name = decimal-name (suc n) lt in
+    minus-printable (decimal (suc n)) name
+
+plain-go : (ds : List ℕ) → 0 < length ds → list_all is_ascii_digit ds ≡ true → 48 < slice_index ds 0 → is_plain ds ≡ true
+plain-go ds some digits first = grind (arith, nat_tests)
+
+plain-decimal : (n : ℕ) → n < 2 ^ 64 → is_plain (decimal n) ≡ true
+plain-decimal zero h = let e : decimal 0 ≡ 48 ∷ [] = decimal_digit 0 (omega arith) in rw e refl
+plain-decimal (suc n) h =
+    let some = decimal_nonempty (suc n) h in
+    let digits = digits_decimal own (suc n) h in
+    let first = first_decimal (suc n) (omega arith) h in
+    plain-go (decimal (suc n)) some digits first
+
+not-minus : (n : ℕ) → n < 2 ^ 64 → (slice_index (decimal n) 0 == 45) ≡ false
+not-minus zero h = let e : decimal 0 ≡ 48 ∷ [] = decimal_digit 0 (omega arith) in rw e refl
+not-minus (suc n) h = let first = first_decimal (suc n) (omega arith) h in grind (arith, nat_tests)
+
+-- a printed number spells that number
+pub number_printed : (z : ℤ) → FitsSigned w64 z → number_of (signed_decimal z) ≡ Some z
+number_printed (pos n) h =
+    let lt : n < 2 ^ 64 = omega arith in
+    rw (not-minus n lt) (plain_some (decimal n) (plain-decimal n lt) ∙ ap (λ m. Some (pos m)) (digits_value-decimal own n lt))
+number_printed (negsuc n) h =
+    let lt : suc n < 2 ^ 64 = omega arith in
+    let value = digits_value-decimal own (suc n) lt in
+    let some : value_after 0 (decimal (suc n)) ≢ 0 = omega arith in
+    negative_some (decimal (suc n)) (plain-decimal (suc n) lt) some ∙ ap (λ m. Some (neg_ℤ (pos m))) value

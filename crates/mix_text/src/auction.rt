@@ -1,0 +1,40 @@
+// An auction.
+ghost use Rattle.std.specs.Prelude.{◌≡◌, ◌<◌, ◌≤◌, length};
+ghost use Rattle.mix_text.specs.Auctions.{IsAuction};
+ghost use Rattle.mix_text.specs.Bidders.{list_at, name_at};
+
+use crate::bidders::Bidders;
+use crate::names::Names;
+use crate::spelling::Name;
+use mix_bids::BidList;
+use mix_num::{Bundle, Prices};
+
+/// An auction: 1 to 8 goods by name, for each a supply and a reserve price from 0 to 1,000,000, and at most 256
+/// bidders by name, each with 1 to 400 bids over these goods.
+#[derive(Drop)]
+pub struct Auction {
+    pub goods: Names,
+    pub supply: Bundle,
+    pub reserve: Prices,
+    pub bidders: Bidders,
+    ghost sound: { IsAuction (record { goods = goods; supply = supply.items; reserve = reserve.items; bidders = bidders }) },
+}
+
+impl Auction {
+    /// The name and the bids of the bidder at a place, from 0.
+    pub fn bidder(&self, k: usize) -> (&Name, &BidList)
+        requires { k < length self.now.bidders }
+        ensures name { result.0.now.bytes ≡ name_at self.now.bidders k }
+        ensures list { result.1.now ≡ list_at self.now.bidders k }
+    {
+        self.bidders.bidder(k)
+    }
+
+    /// How many bidders there are, at most 256.
+    pub fn count(&self) -> usize
+        ensures value { result ≡ length self.now.bidders }
+        ensures range { result ≤ 256 }
+    {
+        self.bidders.count()
+    }
+}

@@ -1,0 +1,28 @@
+//! The text of an auction: its rows, what their fields spell, and rows that are printed.
+#![tactic(auto)]
+
+mod auction;
+mod bidders;
+mod faults;
+mod names;
+mod page;
+mod price;
+mod reading;
+mod rest;
+mod row;
+mod row_list;
+mod row_reading;
+mod spelling;
+
+pub use auction::Auction;
+pub use bidders::Bidders;
+pub use faults::{Code, Fault, Limit, TextError, What};
+pub use names::Names;
+pub use page::Page;
+pub use price::read_price;
+pub use reading::read_auction;
+pub use rest::Rest;
+pub use row::Row;
+pub use row_list::{RowList, rows};
+pub use row_reading::read_bid;
+pub use spelling::{Name, read_name, read_number};

@@ -1,0 +1,304 @@
+// The auction of a text: its rows in order, up to the first that has a fault or passes a limit.
+ghost use Rattle.std.specs.Prelude.{◌≡◌, ◌≢◌, ◌≤◌, ◌<◌, ◌+◌, ◌∷◌, ◌++◌, [], List, ℕ, Some, None, Ok, Err, length, drop, nat_le, if◌then◌else◌, count_by, codes, pos, IfOk, IfErr, OnOk};
+ghost use Rattle.mix_bids.specs.Bids.{IsBid};
+ghost use Rattle.mix_bids.specs.declared.bid.Bid.{Bid};
+ghost use Rattle.mix_text.specs.Bidders.{place_of};
+ghost use Rattle.mix_text.specs.AuctionTexts.{auction_text};
+ghost use Rattle.mix_text.specs.Names.{is_among};
+ghost use Rattle.mix_text.specs.Rows.{RestText, RowText, rows_of};
+ghost use Rattle.mix_text.specs.Reading.{IsFromText, ReadsBids, header_of, read_at, bidders_of, bids_from, field_at, goods_at, goods_form_of, is_negative, limit_of, list_limit_of, mix_one, NamedBid, names_after, numbers_of, placed, reading_of, row_at, unless_past};
+
+use crate::auction::Auction;
+use crate::bidders::Bidders;
+use crate::faults::{Code, Fault, Limit, TextError, What};
+use crate::names::Names;
+use crate::rest::Rest;
+use crate::row::Row;
+use crate::row_list::rows;
+use crate::row_reading::{read_bid_row, read_end, read_header, read_numbers, row_begins, unless};
+use crate::spelling::{Name, read_name};
+use mix_bids::{Bid, BidList};
+use mix_num::{Memory, Prices};
+use std::alloc::Global;
+
+// How much the format `mix,1` lets stand.
+const MOST_GOODS: usize = 5;
+
+const MOST_BIDDERS: usize = 64;
+
+const MOST_BIDS: usize = 400;
+
+const MOST_NEGATIVES: usize = 12;
+
+// The fault of the row with this number.
+fn fault(number: u64, code: Code) -> TextError
+    ensures { result ≡ TextError.Fault (record { at = number; code = code }) }
+{
+    TextError::Fault(Fault { at: number, code })
+}
+
+// The limit that the row with this number passes.
+fn limit(number: u64, what: What) -> TextError
+    ensures { result ≡ TextError.Limit (record { at = number; what = what }) }
+{
+    TextError::Limit(Limit { at: number, what })
+}
+
+// The row at a place, or that the rows end too early.
+fn row_or_end(rows: &[Row], k: usize) -> Result<&Row, TextError>
+    ensures read { IfOk result (λ row. row_at rows.now k ≡ Ok row.now) }
+    ensures wrong { IfErr result (λ e. row_at rows.now k ≡ Err e) }
+{
+    match rows.get(k) {
+        Some(row) => Ok(row),
+        None => Err(fault(rows.len() as u64 + 1, Code::End)),
+    }
+}
+
+// Reads the name at a place of the row of the goods, unlike those before it, and adds it to these.
+fn add_name(names: &mut Names, row: &Row, k: usize) -> Result<(), TextError>
+    requires { k < length row.now.fields }
+    ensures read { OnOk result ((rest : List (List ℕ)) → names_after names.old (field_at row.now.fields k ∷ rest) ≡ names_after names.new rest) }
+    ensures wrong { IfErr result (λ e. (rest : List (List ℕ)) → IsFromText (placed row.now.number (names_after names.old (field_at row.now.fields k ∷ rest))) e) }
+{
+    let name = match read_name(row.field(k)) {
+        Ok(name) => name,
+        Err(code) => return Err(fault(row.number(), code)),
+    };
+    if names.contains(&name) {
+        return Err(fault(row.number(), Code::Repeated));
+    }
+    match names.push(name) {
+        Ok(()) => Ok(()),
+        Err(Memory) => Err(TextError::Memory),
+    }
+}
+
+// The names after the first field, all different.
+fn read_names(alloc: Global, row: &Row) -> Result<Names, TextError>
+    ensures read { IfOk result (λ names. names_after [] (drop 1 row.now.fields) ≡ Ok names) }
+    ensures wrong { IfErr result (λ e. IsFromText (placed row.now.number (names_after [] (drop 1 row.now.fields))) e) }
+{
+    let mut names = Names::new(alloc);
+    for k in 1..row.len() {
+        add_name(&mut names, row, k)?;
+    }
+    Ok(names)
+}
+
+// Whether the row of the goods may stand there, by its word and its number of fields.
+fn goods_form(row: &Row) -> Result<(), Code>
+    ensures { result ≡ goods_form_of row.now.fields }
+{
+    unless(row_begins(row, b"goods"), Code::Place)?;
+    unless(row.len() >= 2, Code::Fields)
+}
+
+// Reads the row of the goods.
+#[tactic(auto, unfolding(crate::specs::Reading::goods_at, crate::specs::Reading::goods_of))]
+fn read_goods(alloc: Global, row: &Row) -> Result<Names, TextError>
+    ensures read { IfOk result (λ names. goods_at mix_one row.now ≡ Ok names) }
+    ensures wrong { IfErr result (λ e. IsFromText (goods_at mix_one row.now) e) }
+{
+    if let Err(code) = goods_form(row) {
+        return Err(fault(row.number(), code));
+    }
+    let names = read_names(alloc, row)?;
+    if names.len() > MOST_GOODS {
+        return Err(limit(row.number(), What::Goods));
+    }
+    Ok(names)
+}
+
+// How many of these bids are negative.
+fn negatives(bids: &[Bid]) -> usize
+    ensures { result ≡ count_by is_negative bids.now }
+{
+    bids.iter().filter(|bid| bid.weight < 0).count()
+}
+
+// The limit that one more bid would pass after those of its bidder.
+fn list_limit(bids: &[Bid], bid: &Bid) -> Option<What>
+    ensures { result ≡ list_limit_of mix_one bids.now bid.now }
+{
+    if bids.len() >= MOST_BIDS {
+        return Some(What::Bids);
+    }
+    if bid.weight < 0 && negatives(bids) >= MOST_NEGATIVES {
+        return Some(What::Negatives);
+    }
+    None
+}
+
+// The limit that the first bid of one more bidder would pass.
+fn bidder_limit(bidders: &Bidders) -> Option<What>
+    ensures { (bid : Bid) → result ≡ (if nat_le mix_one.bidders (length bidders.now) then Some What.Bidders else list_limit_of mix_one [] bid) }
+{
+    if bidders.count() >= MOST_BIDDERS {
+        Some(What::Bidders)
+    } else {
+        None
+    }
+}
+
+// Adds the first bid of a new bidder.
+fn add_bidder(
+    alloc: Global,
+    bidders: &mut Bidders,
+    goods: usize,
+    name: Name,
+    bid: Bid,
+) -> Result<(), Memory>
+    requires goods { (1 ≤ goods) × (goods ≤ 8) }
+    requires absent { place_of name.bytes bidders.old ≡ None }
+    requires bid { IsBid goods bid }
+    ensures { OnOk result (bidders.new ≡ bidders.old ++ (name.bytes, record { goods = goods; bids = bid ∷ [] }) ∷ []) }
+{
+    let mut list = BidList::new(alloc, goods);
+    list.push(bid)?;
+    bidders.add(name, list)
+}
+
+// Adds a bid to the bidders of those before it, unless it passes a limit.
+#[tactic(auto, using(crate::proofs::Bids::gathers_new, crate::proofs::Bids::limit_more))]
+fn add_bid(
+    alloc: Global,
+    bidders: &mut Bidders,
+    goods: usize,
+    name: Name,
+    bid: Bid,
+) -> Result<Option<What>, Memory>
+    requires goods { (1 ≤ goods) × (goods ≤ 8) }
+    requires bid { IsBid goods bid }
+    requires gathered { (before : List NamedBid) × (bidders.old ≡ bidders_of goods before) }
+    ensures limit { IfOk result (λ limit. (before : List NamedBid) → bidders.old ≡ bidders_of goods before → limit ≡ limit_of mix_one before (record { name = name.bytes; bid = bid })) }
+    ensures added { IfOk result (λ limit. (before : List NamedBid) → bidders.old ≡ bidders_of goods before → limit ≡ None → bidders.new ≡ bidders_of goods (before ++ record { name = name.bytes; bid = bid } ∷ [])) }
+{
+    match bidders.find(&name) {
+        Some(k) => {
+            let limit = list_limit(bidders.bidder(k).1.bids(), &bid);
+            if limit.is_none() {
+                bidders.push_bid(k, bid)?;
+            }
+            Ok(limit)
+        }
+        None => {
+            let limit = bidder_limit(bidders);
+            if limit.is_none() {
+                add_bidder(alloc, bidders, goods, name, bid)?;
+            }
+            Ok(limit)
+        }
+    }
+}
+
+/// The bids of an auction by name, and the place after its last row.
+#[derive(Drop)]
+struct Gathered {
+    bidders: Bidders,
+    after: usize,
+}
+
+// Reads the bids over `goods` goods from the fifth row on, up to the row `end`.
+fn read_bids(alloc: Global, rows: &[Row], goods: usize) -> Result<Gathered, TextError>
+    requires { (1 ≤ goods) × (goods ≤ 8) }
+    ensures read { IfOk result (λ read. ReadsBids goods rows.now read.bidders read.after) }
+    ensures wrong { IfErr result (λ e. IsFromText (bids_from mix_one goods (length rows.now + 1) [] (drop 4 rows.now)) e) }
+{
+    let mut bidders = Bidders::new(alloc);
+    for k in 4..rows.len() {
+        let row = &rows[k];
+        if row_begins(row, b"end") {
+            return match read_end(row) {
+                Ok(()) => Ok(Gathered {
+                    bidders,
+                    after: k + 1,
+                }),
+                Err(code) => Err(fault(row.number(), code)),
+            };
+        }
+        let (name, bid) = match read_bid_row(row, goods) {
+            Ok(named) => named,
+            Err(code) => return Err(fault(row.number(), code)),
+        };
+        match add_bid(alloc, &mut bidders, goods, name, bid) {
+            Ok(None) => {}
+            Ok(Some(what)) => return Err(limit(row.number(), what)),
+            Err(Memory) => return Err(TextError::Memory),
+        }
+    }
+    Err(fault(rows.len() as u64 + 1, Code::End))
+}
+
+// Reads the row at a place: a word, and an amount from 0 to 1,000,000 for each good.
+fn read_amounts(rows: &[Row], k: usize, word: &[u8], goods: usize) -> Result<Prices, TextError>
+    requires { goods ≤ 8 }
+    ensures read { IfOk result (λ amounts. read_at rows.now k (numbers_of word.now goods (pos 0) (pos 1000000)) ≡ Ok amounts.items) }
+    ensures wrong { IfErr result (λ e. read_at rows.now k (numbers_of word.now goods (pos 0) (pos 1000000)) ≡ Err e) }
+{
+    let row = row_or_end(rows, k)?;
+    match read_numbers(row, word, goods, 0, 1_000_000) {
+        Ok(amounts) => Ok(amounts),
+        Err(code) => Err(fault(row.number(), code)),
+    }
+}
+
+// Reads the first row.
+fn read_first(rows: &[Row]) -> Result<(), TextError>
+    ensures { result ≡ read_at rows.now 0 header_of }
+{
+    let row = row_or_end(rows, 0)?;
+    match read_header(row) {
+        Ok(()) => Ok(()),
+        Err(code) => Err(fault(row.number(), code)),
+    }
+}
+
+/// An auction, and the place after its last row.
+#[derive(Drop)]
+struct ReadRows {
+    auction: Auction,
+    after: usize,
+}
+
+// Reads the auction of these rows.
+#[tactic(auto, unfolding(crate::specs::Reading::reading_of), using(crate::proofs::SoundAuctions::auction_ok))]
+fn read_rows(alloc: Global, rows: &[Row]) -> Result<ReadRows, TextError>
+    ensures read { IfOk result (λ read. reading_of mix_one rows.now ≡ Ok (auction_text read.auction, record { rows = drop read.after rows.now; next = length rows.now + 1 })) }
+    ensures within { IfOk result (λ read. read.after ≤ length rows.now) }
+    ensures wrong { IfErr result (λ e. IsFromText (reading_of mix_one rows.now) e) }
+{
+    read_first(rows)?;
+    let goods = read_goods(alloc, row_or_end(rows, 1)?)?;
+    let count = goods.len();
+    let supply = read_amounts(rows, 2, b"supply", count)?;
+    let reserve = read_amounts(rows, 3, b"reserve", count)?;
+    let gathered = read_bids(alloc, rows, count)?;
+    Ok(ReadRows {
+        auction: Auction {
+            goods,
+            supply,
+            reserve,
+            bidders: gathered.bidders,
+        },
+        after: gathered.after,
+    })
+}
+
+/// Reads the auction of a text of at most 4,194,304 bytes, and the rows after it.
+///
+/// The rows are looked at in order, and the first that has a fault or passes a limit decides, a fault before a limit
+/// within a row. Where the rows end before `end`, that is the fault `End` of the row that would come next.
+/// `Memory` may come in place of any answer.
+pub fn read_auction(alloc: Global, text: &[u8]) -> Result<(Auction, Rest), TextError>
+    requires { length text.now ≤ 4194304 }
+    ensures read { IfOk result (λ p. reading_of mix_one (rows_of text.now) ≡ Ok (auction_text p.0, p.1)) }
+    ensures wrong { IfErr result (λ e. IsFromText (reading_of mix_one (rows_of text.now)) e) }
+{
+    let list = match rows(alloc, text) {
+        Ok(list) => list,
+        Err(Memory) => return Err(TextError::Memory),
+    };
+    let read = read_rows(alloc, list.rows())?;
+    Ok((read.auction, Rest::after(list, read.after)))
+}

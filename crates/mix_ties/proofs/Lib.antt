@@ -1,0 +1,11 @@
+pub mod Steps
+pub mod Sandwiches
+pub mod PeeledRows
+pub mod SetNumbers
+pub mod Contractions
+pub mod TieRules
+pub mod Subtractions
+pub mod Gifts
+pub mod Extents
+pub mod RowTurns
+pub mod SellerRows

@@ -1,0 +1,10 @@
+//! Sharing a supply among the members by the tie rule: in order, each gets the lexicographically greatest bundle that it
+//! demands and that leaves what the later ones together demand.
+#![tactic(auto)]
+
+mod contraction;
+mod rows;
+mod tables;
+mod turn;
+
+pub use tables::{Tables, share};
