@@ -21,7 +21,7 @@ pub use names::Names;
 pub use page::Page;
 pub use price::read_price;
 pub use reading::read_auction;
-pub use rest::Rest;
+pub use rest::{Rest, no_rest};
 pub use row::Row;
 pub use row_list::{RowList, rows};
 pub use row_reading::read_bid;

@@ -1,7 +1,9 @@
 // The rows after an auction.
 ghost use Rattle.std.specs.Prelude.{◌≡◌, ◌≤◌, ◌+◌, drop, length};
+ghost use Rattle.mix_text.specs.Reading.{nothing_after};
 ghost use Rattle.mix_text.specs.Rows.{RestText};
 
+use crate::faults::{Code, Fault};
 use crate::row::Row;
 use crate::row_list::RowList;
 use std::marker::Model;
@@ -45,5 +47,18 @@ impl Rest {
         ensures { result ≡ self.now.next }
     {
         self.list.next_number()
+    }
+}
+
+/// Refuses rows after an auction: the fault is `After` at the number of the first row that is left.
+pub fn no_rest(rest: &Rest) -> Result<(), Fault>
+    ensures { result ≡ nothing_after rest.now.rows }
+{
+    match rest.rows() {
+        [] => Ok(()),
+        [row, ..] => Err(Fault {
+            at: row.number(),
+            code: Code::After,
+        }),
     }
 }

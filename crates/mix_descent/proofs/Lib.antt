@@ -1,0 +1,3 @@
+mod Climbs
+mod Rooms
+mod Bounds

@@ -1,0 +1,63 @@
+// Climbs in markets whose members are sellers taken as members: each takes its supply at up to its reserves.
+ghost use Rattle.std.specs.Prelude.{◌≡◌, ◌≤◌, [], ◌∷◌, length, pos, ◌≤ℤ◌, All, IfOk};
+ghost use Rattle.mix_num.specs.Ranges.{AreWithin};
+ghost use Rattle.mix_num.specs.Sellers.{AreAmounts, IsAmount};
+ghost use Rattle.mix_seller.specs.Sellers.{supply_of};
+ghost use Rattle.mix_market.specs.Markets.{goods_of};
+
+use crate::descend;
+use mix_market::Market;
+use mix_num::{Bundle, Prices};
+use mix_seller::Seller;
+use mix_step::Steps;
+use std::alloc::{AllocError, Global};
+use std::marker::Brand;
+use std::sync::ledger::{Blank, Ledger};
+use std::test::Fail;
+
+/// A number for each of two goods.
+fn pair(first: i64, second: i64) -> Bundle
+    requires first { IsAmount first }
+    requires second { IsAmount second }
+    ensures amounts { AreAmounts 2 result.items }
+    ensures prices { AreWithin 1000000 2 result.items }
+{
+    let mut both = Bundle::new();
+    both.push(first);
+    both.push(second);
+    both
+}
+
+/// Three units of the first good and one of the second for sale, and three members: two units of the first at up to 10 and
+/// one of the second at up to 4, two of the first at up to 7 and one of the second at up to 4, one of the first at up to 5.
+fn market(alloc: Global) -> Result<Market<Seller>, AllocError>
+    ensures { IfOk result (λ market. goods_of market ≡ 2) }
+{
+    let mut members = Vec::new(alloc);
+    members.push(Seller::new(&pair(2, 1), &pair(10, 4)))?;
+    members.push(Seller::new(&pair(2, 1), &pair(7, 4)))?;
+    members.push(Seller::new(&pair(1, 0), &pair(5, 0)))?;
+    Ok(Market::new(members, Seller::new(&pair(3, 1), &pair(2, 0))))
+}
+
+/// The end of the climb from the start, on a ledger of its own.
+fn end_of<L: Ledger>(market: &Market<Seller>, start: &Prices, blank: Blank) -> Prices
+    requires start { AreWithin 1000000 (goods_of market.now) start.now.items }
+    requires name { blank.name ≡ L.name }
+    requires parts { blank.parts ≡ L.parts }
+    requires some { blank.parts ≡ 1 }
+{
+    let mut steps = Steps::<L>::new(blank);
+    descend(market, start, &mut steps)
+}
+
+#[test]
+fn climbs_to_the_least_point(rt: HostRuntime) -> Result<(), Fail> {
+    let market = market(rt.alloc())?;
+    let rows = [(2, 0, 7, 4), (0, 3, 7, 4), (7, 4, 7, 4), (8, 1, 8, 4), (12, 9, 12, 9)];
+    for (first, second, last_first, last_second) in rows {
+        let end = end_of::<Brand>(&market, &pair(first, second), Blank::new(1));
+        assert_eq!(rt; end.as_slice(), [last_first, last_second].as_slice());
+    }
+    Ok(())
+}

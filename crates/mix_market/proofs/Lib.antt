@@ -1,0 +1,4 @@
+mod MemberSums
+mod Costs
+pub mod MarketLaws
+pub mod MarketFacts

@@ -1,0 +1,18 @@
+use Rattle.std.proofs.Common.{◌≡◌, List, map, pos, ◌-ℤ◌, ◌*ℤ◌, ◌≤ℤ◌, arith, subst}
+use Rattle.std.proofs.lemmas.Int.{ints}
+use Rattle.mix_num.specs.Vectors.{members as within, ray, with_null}
+use Rattle.mix_law.specs.Members.{fall_of}
+use Rattle.mix_market.specs.Lyapunov.{sum_of}
+use Rattle.mix_market.specs.Markets.{members_of, seller_of}
+use Rattle.mix_seller.specs.Sellers.{supply_of}
+use Rattle.mix_market.proofs.MarketLaws.{lyapunov_linear}
+use Rattle.mix_market.proofs.market.Market.reach.Goals as goal
+
+pub returns-clause-linear : goal.returns-clause-linear
+returns-clause-linear g c = λ m h.
+    let f = g.D.Convex.function in
+    let x = with_null c.args.prices.now.items in
+    let s = within c.args.set in
+    let reached : pos m ≤ℤ c.reach.result = omega (arith, ints) in
+    let sum = subst (λ (z : List g.row.D.Denot). sum_of (map f z) (ray x m s) ≡ sum_of (map f z) x -ℤ (pos m *ℤ fall_of (sum_of (map f z)) x s)) c.deref.ensures.value (c.reach.ensures.linear m reached) in
+    lyapunov_linear (map f (members_of c.args.self.now)) (supply_of (seller_of c.args.self.now)) x s m sum

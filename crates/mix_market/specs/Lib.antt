@@ -1,0 +1,4 @@
+pub mod Lyapunov
+pub mod Steepest
+pub mod Memberships
+pub mod Markets

@@ -1,0 +1,21 @@
+-- The set of goods along which a function falls most when their prices rise by one.
+use Rattle.std.specs.Prelude.{◌≡◌, ℕ, ◌≤◌, true, false, ℤ, ◌-ℤ◌, ◌≤ℤ◌}
+use Rattle.mix_num.specs.Vectors.{Vector, Choices, plus}
+
+-- a set of goods alone: the null choice isn't in it
+abbrev pub IsGoods : Choices → Type 0
+IsGoods s = s 0 ≡ false
+
+-- a set within another, over the choices 0 to n
+abbrev pub IsWithin : ℕ → Choices → Choices → Type 0
+IsWithin n s t = (k : ℕ) → k ≤ n → s k ≡ true → t k ≡ true
+
+-- by how much l rises when each price of the set rises by one
+abbrev pub slope_of : (Vector → ℤ) → Vector → Choices → ℤ
+slope_of l p s = l (plus p s) -ℤ l p
+
+-- of all sets of goods, the empty one among them, s has the least slope, and lies within each other that does
+pub record IsMinimalSteepest (n : ℕ) (l : Vector → ℤ) (p : Vector) (s : Choices) : Type 0 where
+  pub goods : IsGoods s
+  pub steepest : (t : Choices) → IsGoods t → slope_of l p s ≤ℤ slope_of l p t
+  pub minimal : (t : Choices) → IsGoods t → slope_of l p t ≡ slope_of l p s → IsWithin n s t

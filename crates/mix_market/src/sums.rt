@@ -1,0 +1,80 @@
+// Sums and bounds over the members of a market.
+ghost use Rattle.std.specs.Prelude.{◌≡◌, ◌≤◌, ◌<◌, ℕ, ℤ, false, pos, ◌+ℤ◌, ◌-ℤ◌, ◌*ℤ◌, ◌≤ℤ◌, length, map, All};
+ghost use Rattle.mix_num.specs.Vectors.{members, ray, with_null};
+ghost use Rattle.mix_num.specs.Ranges.{HaveRoom, Lies};
+ghost use Rattle.mix_law.specs.Members.{fall_of};
+ghost use Rattle.mix_market.specs.Lyapunov.{sum_of};
+ghost use Rattle.mix_market.specs.Memberships.{AreMembers, total_weight};
+
+use mix_law::Convex;
+use mix_num::{Prices, Set};
+
+/// The sum of the members' values at the prices.
+pub fn value<D: Convex>(buyers: &[D], prices: &Prices) -> i64
+    requires buyers { AreMembers D.size D.weight (length prices.now.items) buyers.now }
+    requires prices { HaveRoom (length prices.now.items) prices.now.items }
+    ensures value { result ≡ sum_of (map D.function buyers.now) (with_null prices.now.items) }
+    ensures range { (pos 0 ≤ℤ result) × (result ≤ℤ pos 10240000000000000) }
+{
+    let mut sum = 0;
+    for buyer in buyers {
+        sum += buyer.value(prices);
+    }
+    sum
+}
+
+/// By how much the members' values fall together when each choice of the set rises by one.
+pub fn fall<D: Convex>(buyers: &[D], prices: &Prices, set: Set) -> i64
+    requires buyers { AreMembers D.size D.weight (length prices.now.items) buyers.now }
+    requires prices { HaveRoom (length prices.now.items) prices.now.items }
+    ensures value { result ≡ fall_of (sum_of (map D.function buyers.now)) (with_null prices.now.items) (members set) }
+    ensures range { (pos 0 ≤ℤ result) × (result ≤ℤ pos 2048000000) }
+{
+    let mut sum = 0;
+    for buyer in buyers {
+        sum += buyer.fall(prices, set);
+    }
+    sum
+}
+
+/// The sum of the members' totals.
+pub fn total<D: Convex>(buyers: &[D]) -> i64
+    requires { length buyers.now ≤ 256 }
+    ensures value { result ≡ total_weight D.weight buyers.now }
+    ensures range { (pos 0 ≤ℤ result) × (result ≤ℤ pos 2048000000) }
+    ensures totals { All (λ buyer. (pos 0 ≤ℤ D.weight buyer) × (D.weight buyer ≤ℤ pos 8000000)) buyers.now }
+{
+    let mut sum = 0;
+    for buyer in buyers {
+        sum += buyer.total();
+    }
+    sum
+}
+
+/// The greatest of the members' tops of a good, or -1,000,000 where there is no member.
+pub fn highest_top<D: Convex>(buyers: &[D], good: usize) -> i64
+    requires { All (λ buyer. (1 ≤ good) × (good ≤ D.size buyer)) buyers.now }
+    ensures range { Lies 1000000 result }
+    ensures above { All (λ buyer. D.ceiling buyer good ≤ℤ result) buyers.now }
+{
+    let mut highest = -1_000_000;
+    for buyer in buyers {
+        highest = highest.max(buyer.top(good));
+    }
+    highest
+}
+
+/// The least of the members' reaches along the set, or 8,000,000 where there is no member.
+pub fn reach<D: Convex>(buyers: &[D], prices: &Prices, set: Set) -> i64
+    requires buyers { AreMembers D.size D.weight (length prices.now.items) buyers.now }
+    requires prices { HaveRoom (length prices.now.items) prices.now.items }
+    requires goods { members set 0 ≡ false }
+    ensures range { (pos 1 ≤ℤ result) × (result ≤ℤ pos 8000000) }
+    ensures linear { (m : ℕ) → pos m ≤ℤ result → sum_of (map D.function buyers.now) (ray (with_null prices.now.items) m (members set)) ≡ sum_of (map D.function buyers.now) (with_null prices.now.items) -ℤ (pos m *ℤ fall_of (sum_of (map D.function buyers.now)) (with_null prices.now.items) (members set)) }
+{
+    let mut least = 8_000_000;
+    for buyer in buyers {
+        least = least.min(buyer.reach(prices, set));
+    }
+    least
+}

@@ -1,0 +1,60 @@
+// A market of two goods, whose one member is a seller taken as a member.
+ghost use Rattle.std.specs.Prelude.{◌≡◌, IfOk, length};
+ghost use Rattle.mix_num.specs.Ranges.{HaveRoom, Lies};
+ghost use Rattle.mix_num.specs.Sellers.{AreAmounts, IsAmount};
+ghost use Rattle.mix_market.specs.Markets.{goods_of};
+
+use crate::Market;
+use mix_num::{Bundle, Prices, Set};
+use mix_seller::Seller;
+use std::alloc::{AllocError, Global};
+use std::test::Fail;
+
+/// A number for each of two goods.
+fn pair(first: i64, second: i64) -> Bundle
+    requires first { IsAmount first }
+    requires second { IsAmount second }
+    ensures amounts { AreAmounts 2 result.items }
+    ensures prices { HaveRoom 2 result.items }
+{
+    let mut both = Bundle::new();
+    both.push(first);
+    both.push(second);
+    both
+}
+
+/// One unit of each good for sale at no reserve, and a member that takes two of the first at up to 5 and two of the second
+/// at up to 3.
+fn market(alloc: Global) -> Result<Market<Seller>, AllocError>
+    ensures { IfOk result (λ market. goods_of market ≡ 2) }
+{
+    let mut members = Vec::new(alloc);
+    members.push(Seller::new(&pair(2, 2), &pair(5, 3)))?;
+    Ok(Market::new(members, Seller::new(&pair(1, 1), &pair(0, 0))))
+}
+
+#[test]
+fn sums_members_and_supply(rt: HostRuntime) -> Result<(), Fail> {
+    let market = market(rt.alloc())?;
+    assert_eq!(rt; market.members().len(), 1);
+    assert_eq!(rt; market.total(), 4);
+    assert_eq!(rt; (market.top(1), market.top(2)), (5, 3));
+    assert_eq!(rt; market.lyapunov(&pair(0, 0)), 16);
+    assert_eq!(rt; market.lyapunov(&pair(1, 1)), 14);
+    assert_eq!(rt; market.lyapunov(&pair(5, 4)), 9);
+    Ok(())
+}
+
+#[test]
+fn slopes_are_supply_less_fall(rt: HostRuntime) -> Result<(), Fail> {
+    let market = market(rt.alloc())?;
+    let both = Set::from_bits(6);
+    assert_eq!(rt; market.slope(&pair(0, 0), Set::from_bits(0)), 0);
+    assert_eq!(rt; market.slope(&pair(0, 0), Set::from_bits(2)), -1);
+    assert_eq!(rt; market.slope(&pair(0, 0), both), -2);
+    assert_eq!(rt; market.slope(&pair(4, 3), both), 0);
+    assert_eq!(rt; market.slope(&pair(5, 3), both), 2);
+    let reach = market.reach(&pair(0, 0), both);
+    assert!(rt; reach >= 1 && reach <= 3);
+    Ok(())
+}

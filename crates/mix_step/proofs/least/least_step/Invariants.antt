@@ -1,0 +1,9 @@
+use Rattle.std.proofs.Common.{length}
+use Rattle.mix_num.specs.Vectors.{members, with_null}
+use Rattle.mix_market.specs.Markets.{lyapunov_of}
+use Rattle.mix_market.specs.Steepest.{slope_of}
+use Rattle.mix_step.proofs.FirstSteepest.{IsFirst}
+use Rattle.mix_step.proofs.least.least_step.Given as goal
+
+abbrev pub invariant-loop-goods : goal.invariant-loop-goods
+invariant-loop-goods g l = IsFirst (length l.prices.items) (λ set. slope_of (lyapunov_of l.market) (with_null l.prices.items) (members set)) l.goods l.best.set l.best.slope

@@ -1,0 +1,3 @@
+pub mod ValidLists
+pub mod Laws
+pub mod Refusals

@@ -1,0 +1,10 @@
+//! Validity of lists of bids, decided exactly, and valid lists as members of the market.
+#![tactic(auto)]
+
+mod refused;
+mod valid_list;
+mod validation;
+
+pub use refused::{NotValid, Refused};
+pub use valid_list::ValidList;
+pub use validation::validate;

@@ -1,0 +1,83 @@
+// Lists that stand for a demand.
+ghost use Rattle.std.specs.Prelude.{◌≡◌, ◌≤◌, length};
+ghost use Rattle.mix_bids.specs.Bids.{AreBids, NoneNegative};
+
+use mix_bids::BidList;
+use mix_law::Convex;
+use mix_num::{Prices, Set};
+
+/// A list of which no facet weight is negative at any whole prices: it stands for a demand.
+#[derive(Drop)]
+pub struct ValidList {
+    list: BidList,
+    ghost some_goods: { 1 ≤ list.goods },
+    ghost few_goods: { list.goods ≤ 8 },
+    ghost few_bids: { length list.bids ≤ 400 },
+    ghost proper: { AreBids list.goods list.bids },
+    ghost valid: { NoneNegative list.goods list.bids },
+}
+
+impl ValidList {
+    ghost use Rattle.mix_validity.specs.ValidLists.{book_of};
+
+    // The list, once it is known that no facet weight of it is negative.
+    pub(crate) fn new(list: BidList) -> ValidList
+        requires { NoneNegative list.goods list.bids }
+        ensures { book_of result ≡ list }
+    {
+        let _goods = list.goods();
+        let _bids = list.bids();
+        ValidList { list }
+    }
+
+    /// The list of bids.
+    pub fn list(&self) -> &BidList
+        ensures { result.now ≡ book_of self.now }
+    {
+        &self.list
+    }
+}
+
+/// The function is the indirect utility, the total is the sum of the weights, and the tops are the greatest values offered.
+impl Convex for ValidList {
+    ghost use Rattle.mix_bids.specs.Bids.{top_value, total_weight, utility};
+    ghost use Rattle.mix_validity.specs.Laws.{valid_convex};
+
+    ghost size = { λ valid. valid.list.goods };
+
+    ghost weight = { λ valid. total_weight valid.list.bids };
+
+    ghost ceiling = { λ valid. top_value valid.list.bids };
+
+    ghost function = { λ valid. utility valid.list.bids };
+
+    ghost convex = { λ valid. valid_convex valid.list.goods valid.list.bids valid.proper valid.valid };
+
+    fn goods(&self) -> usize {
+        self.list.goods()
+    }
+
+    fn total(&self) -> i64 {
+        self.list.total()
+    }
+
+    fn top(&self, good: usize) -> i64 {
+        self.list.top(good)
+    }
+
+    fn value(&self, prices: &Prices) -> i64 {
+        self.list.utility(prices)
+    }
+
+    fn fall(&self, prices: &Prices, set: Set) -> i64 {
+        self.list.fall(prices, set)
+    }
+
+    fn gain_down(&self, prices: &Prices, set: Set) -> i64 {
+        self.list.gain_down(prices, set)
+    }
+
+    fn reach(&self, _prices: &Prices, _set: Set) -> i64 {
+        1
+    }
+}

@@ -1,0 +1,109 @@
+// Exact validity: the search for a facet of negative weight.
+ghost use Rattle.std.specs.Prelude.{◌≡◌, ◌<◌, ◌≤◌, pos, ◌≤ℤ◌, IfErr, IfOk, MatchOption};
+ghost use Rattle.mix_bids.specs.Bids.{facet_weight, NoneNegative};
+ghost use Rattle.mix_facets.specs.Planes.{IsLevelOf};
+ghost use Rattle.mix_facets.specs.Points.{prices_at, IsPoint};
+ghost use Rattle.mix_validity.specs.Refusals.{IsClear, IsClearAt, IsClearFrom, IsNegativeFacet, IsTrueRefusal};
+ghost use Rattle.mix_validity.specs.ValidLists.{book_of};
+
+use crate::refused::{NotValid, Refused};
+use crate::valid_list::ValidList;
+use mix_bids::BidList;
+use mix_facets::{Level, Point, grid_of, levels_of, price_of, weight_at};
+use mix_num::Memory;
+use std::alloc::Global;
+
+/// The list as a valid one, if no facet weight of it is negative at any whole prices. A list that isn't is dropped.
+///
+/// `Refused::NotValid` comes exactly where some facet weight is negative, and carries such a facet. `Refused::Memory`
+/// comes where memory is wanting.
+pub fn validate(alloc: Global, list: BidList) -> Result<ValidList, Refused>
+    ensures list { IfOk result (λ valid. book_of valid ≡ list) }
+    ensures valid { IfOk result (λ valid. NoneNegative list.goods list.bids) }
+    ensures refused { IfErr result (IsTrueRefusal list) }
+{
+    let Ok(found) = refusal_of(alloc, &list) else {
+        return Err(Refused::Memory);
+    };
+    match found {
+        Some(facet) => Err(Refused::NotValid(facet)),
+        None => Ok(ValidList::new(list)),
+    }
+}
+
+/// A facet of negative weight of any two choices.
+fn refusal_of(alloc: Global, list: &BidList) -> Result<Option<NotValid>, Memory>
+    ensures { IfOk result (λ found. MatchOption found (NoneNegative list.now.goods list.now.bids) (IsNegativeFacet list.now)) }
+{
+    for first in 0..list.goods() {
+        if let Some(facet) = refusal_with_first(alloc, list, first)? {
+            return Ok(Some(facet));
+        }
+    }
+    Ok(None)
+}
+
+/// A facet of negative weight of a choice and a later one.
+fn refusal_with_first(alloc: Global, list: &BidList, first: usize) -> Result<Option<NotValid>, Memory>
+    requires { first < list.now.goods }
+    ensures { IfOk result (λ found. MatchOption found (IsClearFrom list.now first) (IsNegativeFacet list.now)) }
+{
+    let goods = list.goods();
+    for second in first + 1..goods + 1 {
+        if let Some(facet) = refusal_of_pair(alloc, list, first, second)? {
+            return Ok(Some(facet));
+        }
+    }
+    Ok(None)
+}
+
+/// A facet of negative weight of two choices.
+fn refusal_of_pair(alloc: Global, list: &BidList, first: usize, second: usize) -> Result<Option<NotValid>, Memory>
+    requires order { first < second }
+    requires within { second ≤ list.now.goods }
+    ensures { IfOk result (λ found. MatchOption found (IsClear list.now first second) (IsNegativeFacet list.now)) }
+{
+    let levels = levels_of(alloc, list, first, second)?;
+    for place in 0..levels.len() {
+        if let Some(facet) = refusal_at_level(alloc, list, first, second, levels.level(place))? {
+            return Ok(Some(facet));
+        }
+    }
+    Ok(None)
+}
+
+/// A facet of negative weight of two choices, at prices that differ by the difference of a level of theirs.
+fn refusal_at_level(alloc: Global, list: &BidList, first: usize, second: usize, level: &Level) -> Result<Option<NotValid>, Memory>
+    requires level { IsLevelOf list.now level.now }
+    requires first { level.now.first ≡ first }
+    requires second { level.now.second ≡ second }
+    ensures { IfOk result (λ found. MatchOption found (IsClearAt list.now first second level.now.difference) (IsNegativeFacet list.now)) }
+{
+    let grid = grid_of(alloc, list, level)?;
+    for number in 0..grid.size() {
+        if let Some(facet) = refusal_at_point(list, first, second, level, &grid.point(number)) {
+            return Ok(Some(facet));
+        }
+    }
+    Ok(None)
+}
+
+/// The facet of two choices at a point of a level of theirs, if its weight is negative.
+fn refusal_at_point(list: &BidList, first: usize, second: usize, level: &Level, point: &Point) -> Option<NotValid>
+    requires level { IsLevelOf list.now level.now }
+    requires first { level.now.first ≡ first }
+    requires second { level.now.second ≡ second }
+    requires point { IsPoint level.now point.now.items }
+    ensures { MatchOption result (pos 0 ≤ℤ facet_weight list.now.goods level.now.first level.now.second list.now.bids (prices_at level.now point.now.items)) (IsNegativeFacet list.now) }
+{
+    let weight = weight_at(list, level, point);
+    if weight >= 0 {
+        return None;
+    }
+    Some(NotValid {
+        first,
+        second,
+        prices: price_of(level, point),
+        weight,
+    })
+}

@@ -1,0 +1,5 @@
+mod Causes
+mod PrintableWords
+mod PrintedRows
+mod ReadPrices
+mod SoundBidders

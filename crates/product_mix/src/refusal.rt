@@ -1,0 +1,57 @@
+// The answer to a text that is refused.
+ghost use Rattle.std.specs.Prelude.{◌≡◌, ◌≢◌, ◌<◌, IfOk};
+ghost use Rattle.mix_text.specs.Pages.{line_of};
+ghost use Rattle.product_mix.specs.Answers.{output_of};
+ghost use Rattle.product_mix.specs.Outputs.{fault_row, limit_row, refusal};
+
+use crate::answer::Answer;
+use crate::rows::{add_fault, add_limit};
+use mix_num::Memory;
+use mix_text::{Fault, Limit, Page, TextError};
+use std::alloc::Global;
+
+const FAULT: u8 = 3;
+const LIMIT: u8 = 4;
+
+// The row of a fault by itself.
+fn fault_text(alloc: Global, fault: Fault) -> Result<Vec<u8>, Memory>
+    ensures { IfOk result (λ bytes. bytes.items ≡ line_of (fault_row fault)) }
+{
+    let mut page = Page::new(alloc);
+    add_fault(&mut page, fault)?;
+    page.finish()
+}
+
+// The row of a limit by itself.
+fn limit_text(alloc: Global, limit: Limit) -> Result<Vec<u8>, Memory>
+    ensures { IfOk result (λ bytes. bytes.items ≡ line_of (limit_row limit)) }
+{
+    let mut page = Page::new(alloc);
+    add_limit(&mut page, limit)?;
+    page.finish()
+}
+
+/// The answer to a text with this wrong first: status 3 and the fault, or status 4 and the limit.
+pub fn refused(alloc: Global, error: TextError) -> Result<Answer, Memory>
+    ensures answer { IfOk result (λ answer. output_of answer ≡ refusal error) }
+    ensures status { IfOk result (λ answer. (answer.status < 5) × (answer.status ≢ 2)) }
+    ensures memory { IfOk result (λ answer. error ≢ TextError.Memory) }
+{
+    match error {
+        TextError::Fault(fault) => {
+            let bytes = fault_text(alloc, fault)?;
+            Ok(Answer {
+                status: FAULT,
+                bytes,
+            })
+        }
+        TextError::Limit(limit) => {
+            let bytes = limit_text(alloc, limit)?;
+            Ok(Answer {
+                status: LIMIT,
+                bytes,
+            })
+        }
+        TextError::Memory => Err(Memory),
+    }
+}

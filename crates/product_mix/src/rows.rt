@@ -1,0 +1,69 @@
+// The rows that the program prints, one function for each kind.
+ghost use Rattle.std.specs.Prelude.{◌≡◌, ◌<◌, ◌++◌, ◌∷◌, [], codes, decimal, length, OnOk};
+ghost use Rattle.mix_num.specs.Ranges.{ArePrices};
+ghost use Rattle.mix_text.specs.Bidders.{bidder_at};
+ghost use Rattle.mix_text.specs.Pages.{line_of};
+ghost use Rattle.product_mix.specs.Outputs.{fault_row, limit_row};
+ghost use Rattle.product_mix.specs.Utilities.{utility_row};
+
+use crate::words::{word_of_code, word_of_limit};
+use itoa::Buffer;
+use mix_num::{Memory, Prices};
+use mix_text::{Auction, Fault, Limit, Page};
+
+// Adds the number of a row to the open row.
+#[tactic(auto, using(crate::proofs::PrintableWords::printable_number))]
+fn add_row_number(page: &mut Page, number: u64) -> Result<(), Memory>
+    ensures { OnOk result (page.new ≡ record page.old { fields = page.old.fields ++ decimal number ∷ [] }) }
+{
+    let mut buffer = Buffer::new();
+    page.text(buffer.format(number).as_bytes())
+}
+
+/// Adds the row of a fault.
+#[tactic(auto, using(crate::proofs::PrintableWords::printable_code))]
+pub fn add_fault(page: &mut Page, fault: Fault) -> Result<(), Memory>
+    requires { page.old.fields ≡ [] }
+    ensures { OnOk result (page.new ≡ record { ended = page.old.ended ++ line_of (fault_row fault); fields = [] }) }
+{
+    page.text(b"fault")?;
+    add_row_number(page, fault.at)?;
+    page.text(word_of_code(fault.code))?;
+    page.end_row()
+}
+
+/// Adds the row of a limit.
+#[tactic(auto, using(crate::proofs::PrintableWords::printable_what))]
+pub fn add_limit(page: &mut Page, limit: Limit) -> Result<(), Memory>
+    requires { page.old.fields ≡ [] }
+    ensures { OnOk result (page.new ≡ record { ended = page.old.ended ++ line_of (limit_row limit); fields = [] }) }
+{
+    page.text(b"limit")?;
+    add_row_number(page, limit.at)?;
+    page.text(word_of_limit(limit.what))?;
+    page.end_row()
+}
+
+/// Adds the row of the indirect utility of the bidder at a place, from 0, at the prices.
+pub fn add_utility(page: &mut Page, auction: &Auction, k: usize, prices: &Prices) -> Result<(), Memory>
+    requires closed { page.old.fields ≡ [] }
+    requires place { k < length auction.now.bidders }
+    requires prices { ArePrices (length auction.now.goods) prices.now.items }
+    ensures { OnOk result (page.new ≡ record { ended = page.old.ended ++ line_of (utility_row prices.now.items (bidder_at auction.now.bidders k)); fields = [] }) }
+{
+    let (name, list) = auction.bidder(k);
+    let value = list.utility(prices);
+    page.text(b"utility")?;
+    page.text(name.as_str().as_bytes())?;
+    page.number(value)?;
+    page.end_row()
+}
+
+/// Adds the last row.
+pub fn add_end(page: &mut Page) -> Result<(), Memory>
+    requires { page.old.fields ≡ [] }
+    ensures { OnOk result (page.new ≡ record { ended = page.old.ended ++ line_of (codes "end" ∷ []); fields = [] }) }
+{
+    page.text(b"end")?;
+    page.end_row()
+}

@@ -1,0 +1,140 @@
+// Whole calls on devices in memory: which text is printed with which status where memory is ample.
+use crate::command::run;
+use mix_io::{MemorySink, MemorySource};
+use std::alloc::Global;
+use std::test::Fail;
+
+const AUCTION: &[u8] = b"mix,1\ngoods,A,B\nsupply,1,1\nreserve,0,0\nbid,X,1,4,-\nbid,X,1,-,4\nbid,X,1,6,6\nbid,X,-1,4,4\nbid,Y,1,5,-\nend\n";
+
+// Bids of one good follow.
+const ONE_GOOD: &[u8] = b"mix,1\ngoods,A\nsupply,1\nreserve,0\n";
+
+// The auction as a spreadsheet saves it, up to its last bid.
+const SPREAD: &[u8] = b"mix,1,,,\r\ngoods,A,B,,\r\nsupply,1,1,,\r\nreserve,0,0,,\r\nbid,X,1,4,-\r\nbid,X,1,-,4\r\nbid,X,1,6,6\r\nbid,X,-1,4,4\r\nbid,Y,1,5,-\r\n,,,,\r\n";
+
+const MARK: &[u8] = b"\xEF\xBB\xBF";
+
+// What stands at the front, and then `count` times `line`, and then `tail`.
+fn text_of(alloc: Global, front: &[u8], line: &[u8], count: usize, tail: &[u8]) -> Result<Vec<u8>, Fail> {
+    let mut text = front.to_vec(alloc)?;
+    for _ in 0..count {
+        text.extend_from_slice(line)?;
+    }
+    text.extend_from_slice(tail)?;
+    Ok(text)
+}
+
+// A call with these words, from a source of pieces of 8 bytes whose listed calls fail to a sink with room for `room` bytes.
+fn call(alloc: Global, words: &[&str], text: Vec<u8>, fails: Vec<u64>, room: usize) -> Result<(u8, MemorySink), Fail> {
+    let mut named = Vec::new(alloc);
+    for word in words {
+        named.push(String::from_str(alloc, word)?)?;
+    }
+    let mut input = MemorySource::new(text, 8, fails);
+    let mut output = MemorySink::new(alloc, room, 3, Vec::new(alloc))?;
+    let status = run(alloc, &named, &mut input, &mut output);
+    Ok((status, output))
+}
+
+#[test]
+fn utilities_and_faults(rt: HostRuntime) -> Result<(), Fail> {
+    let alloc = rt.alloc();
+    let done = b"utility,X,6\nutility,Y,1\nend\n";
+    let cases: [(&[u8], &[u8], &[u8], u8, &[u8]); 16] = [
+        (b"", AUCTION, b"price,4,0\n", 0, done),
+        (MARK, SPREAD, b"end,,,,\r\nprice,4,0,,\r\n", 0, done),
+        (
+            b"\xEF\xBB\xBF\xEF\xBB\xBF\r\n",
+            SPREAD,
+            b"end,,,,\r\nprice,4,0,,\r\n",
+            0,
+            done,
+        ),
+        (
+            b"mix,1\ngoods,A,B\nsupply,1,1\nreserve,0,0\n",
+            b"bid,X,1,4,-\nbid,Y,1,5,-\nbid,X,1,-,4\nbid,X,1,6,6\nbid,X,-1,4,4\nend\n",
+            b"price,4,0\n",
+            0,
+            done,
+        ),
+        (b"", AUCTION, b"", 3, b"fault,11,end\n"),
+        (b"", AUCTION, b"price,4,2000001\n", 3, b"fault,11,range\n"),
+        (MARK, SPREAD, b"", 3, b"fault,10,end\n"),
+        (b"", ONE_GOOD, b"", 3, b"fault,5,end\n"),
+        (b"", ONE_GOOD, b"bid,P,0,5\n", 3, b"fault,5,weight\n"),
+        (b"", ONE_GOOD, b"bid,P,1,1000001\n", 3, b"fault,5,range\n"),
+        (b"", ONE_GOOD, b"bid,P,1,05\n", 3, b"fault,5,number\n"),
+        (b"", ONE_GOOD, b"bid,P,1,-\n", 3, b"fault,5,nothing\n"),
+        (b"", ONE_GOOD, b"bid,P,1\n", 3, b"fault,5,fields\n"),
+        (b"", ONE_GOOD, b"bid,7P,1,5\n", 3, b"fault,5,name\n"),
+        (b"", ONE_GOOD, b"sell,P,1,5\n", 3, b"fault,5,place\n"),
+        (b"", ONE_GOOD, b"end\nend\n", 3, b"fault,6,place\n"),
+    ];
+    for (front, middle, tail, status, output) in cases {
+        let text = text_of(alloc, front, middle, 1, tail)?;
+        let (answer, sink) = call(alloc, &["utility"], text, Vec::new(alloc), 64)?;
+        assert_eq!(rt; answer, status);
+        assert_eq!(rt; sink.bytes(), output);
+    }
+    Ok(())
+}
+
+#[test]
+fn limits(rt: HostRuntime) -> Result<(), Fail> {
+    let alloc = rt.alloc();
+    let cases: [(&[u8], &[u8], usize, &[u8], u8, &[u8]); 5] = [
+        (
+            ONE_GOOD,
+            b"bid,P,1,5\n",
+            400,
+            b"end\nprice,0\n",
+            0,
+            b"utility,P,2000\nend\n",
+        ),
+        (
+            ONE_GOOD,
+            b"bid,P,1,5\n",
+            401,
+            b"end\nprice,0\n",
+            4,
+            b"limit,405,bids\n",
+        ),
+        (
+            ONE_GOOD,
+            b"bid,P,-1,5\n",
+            13,
+            b"end\n",
+            4,
+            b"limit,17,negatives\n",
+        ),
+        (b"", b"\n", 4_194_304, b"", 3, b"fault,1,end\n"),
+        (b"", b"\n", 4_194_305, b"", 4, b"limit,0,bytes\n"),
+    ];
+    for (front, line, count, tail, status, output) in cases {
+        let text = text_of(alloc, front, line, count, tail)?;
+        let (answer, sink) = call(alloc, &["utility"], text, Vec::new(alloc), 64)?;
+        assert_eq!(rt; answer, status);
+        assert_eq!(rt; sink.bytes(), output);
+    }
+    Ok(())
+}
+
+#[test]
+fn words_and_devices(rt: HostRuntime) -> Result<(), Fail> {
+    let alloc = rt.alloc();
+    let unknown: [&[&str]; 3] = [&["solve", "x"], &[], &["trial", "01"]];
+    for words in unknown {
+        let (answer, sink) = call(alloc, words, AUCTION.to_vec(alloc)?, vec![in alloc; 1]?, 64)?;
+        assert_eq!(rt; answer, 2);
+        assert_eq!(rt; sink.bytes(), b"error,words\n".as_slice());
+    }
+    let text = text_of(alloc, AUCTION, b"price,4,0\n", 1, b"")?;
+    let (answer, sink) = call(alloc, &["utility"], text, vec![in alloc; 2]?, 64)?;
+    assert_eq!(rt; answer, 5);
+    assert_eq!(rt; sink.bytes(), b"error,read\n".as_slice());
+    let text = text_of(alloc, AUCTION, b"price,4,0\n", 1, b"")?;
+    let (answer, sink) = call(alloc, &["utility"], text, Vec::new(alloc), 10)?;
+    assert_eq!(rt; answer, 6);
+    assert_eq!(rt; sink.bytes(), b"utility,X,".as_slice());
+    Ok(())
+}
