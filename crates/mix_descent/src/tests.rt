@@ -2,13 +2,11 @@
 ghost use Rattle.std.specs.Prelude.{◌≡◌, ◌≤◌, [], ◌∷◌, length, pos, ◌≤ℤ◌, All, IfOk};
 ghost use Rattle.mix_num.specs.Ranges.{AreWithin};
 ghost use Rattle.mix_num.specs.Sellers.{AreAmounts, IsAmount};
-ghost use Rattle.mix_seller.specs.Sellers.{supply_of};
 ghost use Rattle.mix_market.specs.Markets.{goods_of};
 
 use crate::descend;
-use mix_market::Market;
+use mix_market::{Market, Seller};
 use mix_num::{Bundle, Prices};
-use mix_seller::Seller;
 use mix_step::Steps;
 use std::alloc::{AllocError, Global};
 use std::marker::Brand;
@@ -54,7 +52,13 @@ fn end_of<L: Ledger>(market: &Market<Seller>, start: &Prices, blank: Blank) -> P
 #[test]
 fn climbs_to_the_least_point(rt: HostRuntime) -> Result<(), Fail> {
     let market = market(rt.alloc())?;
-    let rows = [(2, 0, 7, 4), (0, 3, 7, 4), (7, 4, 7, 4), (8, 1, 8, 4), (12, 9, 12, 9)];
+    let rows = [
+        (2, 0, 7, 4),
+        (0, 3, 7, 4),
+        (7, 4, 7, 4),
+        (8, 1, 8, 4),
+        (12, 9, 12, 9),
+    ];
     for (first, second, last_first, last_second) in rows {
         let end = end_of::<Brand>(&market, &pair(first, second), Blank::new(1));
         assert_eq!(rt; end.as_slice(), [last_first, last_second].as_slice());

@@ -6,6 +6,7 @@ mod sums;
 mod supply;
 
 pub use market::Market;
+pub use mix_seller::Seller;
 
 #[cfg(test)]
 mod tests;

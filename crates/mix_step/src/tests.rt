@@ -5,9 +5,8 @@ ghost use Rattle.mix_num.specs.Sellers.{AreAmounts, IsAmount};
 ghost use Rattle.mix_market.specs.Markets.{goods_of};
 
 use crate::{Step, Steps, least_step};
-use mix_market::Market;
+use mix_market::{Market, Seller};
 use mix_num::{Bundle, Set};
-use mix_seller::Seller;
 use std::alloc::{AllocError, Global};
 use std::marker::Brand;
 use std::sync::ledger::{Blank, Ledger};
@@ -52,7 +51,13 @@ fn step_at<L: Ledger>(market: &Market<Seller>, first: i64, second: i64, blank: B
 #[test]
 fn finds_the_smallest_steepest_set(rt: HostRuntime) -> Result<(), Fail> {
     let market = market(rt.alloc())?;
-    let rows = [(0, 0, 6, -2), (4, 2, 6, -2), (4, 3, 2, -1), (5, 2, 4, -1), (5, 3, 0, 0)];
+    let rows = [
+        (0, 0, 6, -2),
+        (4, 2, 6, -2),
+        (4, 3, 2, -1),
+        (5, 2, 4, -1),
+        (5, 3, 0, 0),
+    ];
     for (first, second, bits, slope) in rows {
         let step = step_at::<Brand>(&market, first, second, Blank::new(1));
         assert_eq!(rt; (step.set.bits(), step.slope), (bits, slope));

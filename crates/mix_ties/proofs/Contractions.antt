@@ -1,4 +1,4 @@
--- The tables that the code keeps are those of the theory.
+-- The tables that the code keeps are those of the peeled choices, and how large their numbers grow.
 use Rattle.std.proofs.Common.{◌≡◌, ℕ, suc, ◌+◌, ◌-◌, ◌*◌, ◌%◌, ◌^◌, ◌<◌, ◌≤◌, true, false, ℤ, ◌-ℤ◌, ◌≤ℤ◌, List, [], ◌∷◌, ◌++◌, append_assoc, refl, sym, ap, ap₂, ◌∙◌, arith}
 use Rattle.std.proofs.lemmas.Int.{ints, clamps}
 use Rattle.std.proofs.lemmas.Nat.{pow-add}
@@ -15,10 +15,7 @@ cut-is k old new v h = λ i. λ s. h (number k s) (number-lt k s) i
 pub lift-is : (k : ℕ) (old new : List ℤ) (v : ℤ) → IsLift (2 ^ (suc k)) old new v → table_over k new ≡ lift (suc k) (table_over (suc k) old) v
 lift-is k old new v h = λ i. λ s. h (number k s) (number-lt k s) i
 
-antisym : (a b : ℤ) → a ≤ℤ b → b ≤ℤ a → a ≡ b
-antisym a b p q = omega (arith, ints)
-
--- a lower bound of a table_over that is reached is its least number
+-- a lower bound of a table that is reached is its least number
 pub least-is : (k : ℕ) (f : Subset k → ℤ) (v : ℤ) (at : Subset k) → ((s : Subset k) → v ≤ℤ f s) → v ≡ f at → v ≡ least k f
 least-is k f v at below e =
     let a = least-at k f in
@@ -74,7 +71,7 @@ gap-room k size upper lower v m b p q lt e =
     let y = q (with_first false m) (omega arith) in
     (omega (arith, ints), omega (arith, ints))
 
--- one turn of the loop
+-- one good more has its amount
 pub loop-step : (n k left : ℕ) (upper0 lower0 upper lower upper' lower' : List ℤ) (v : ℤ) (done : List ℤ) → left ≡ suc k
     → goods_of n (greedy (suc n) (table_over n upper0) (table_over n lower0)) ≡ done ++ goods_of left (greedy (suc left) (table_over left upper) (table_over left lower))
     → IsGiven k upper lower v upper' lower'

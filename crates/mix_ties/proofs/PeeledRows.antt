@@ -101,11 +101,7 @@ pub exact_of : (k : ℕ) (r : Subset k → ℤ) (rs : List (Subset k → ℤ)) (
     → amount_in k t (every k) ≡ rows_at k (r ∷ rs) (every k) → amount_in k x (every k) ≡ r (every k)
 exact_of k r rs t x b e = omega (arith, ints, b.over (every k), b.under (every k))
 
-pub minus-self : (k : ℕ) (t : Amounts k) → without k t t ≡ zeros k
-minus-self zero t = refl
-minus-self (suc k) t = ap₂ (λ (a : ℤ) (b : Amounts k). (a, b)) (omega (arith, ints)) (minus-self k t.1)
-
--- amounts_of that are nowhere positive together, and 0 in all, are 0
+-- amounts that are nowhere positive together, and 0 in all, are 0
 pub zero-from : (k : ℕ) (y : Amounts k) → ((s : Subset k) → amount_in k y s ≤ℤ pos 0) → amount_in k y (every k) ≡ pos 0 → y ≡ zeros k
 zero-from zero y h e = refl
 zero-from (suc k) y h e =
@@ -128,7 +124,7 @@ shared k (r ∷ rs) t p h e =
       shared k rs (without k t x) p.1 (left-fits k r rs t x b) (omega (arith, ints, sum_minus k t x (every k))),
     )
 
--- the greatest number of the first choice, and so on
+-- what lies between has at most the greatest amount of the first choice
 pub most-bounds : (k : ℕ) (r g : Subset (suc k) → ℤ) (z : Amounts (suc k)) → LiesBetween (suc k) r g z → z.0 ≤ℤ most k r g
 most-bounds k r g z b =
     let a = least-at k (λ s. r (true, s) -ℤ g (false, s)) in

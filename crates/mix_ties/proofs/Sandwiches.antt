@@ -1,4 +1,4 @@
--- A vector between a submodular and a supermodular table_over.
+-- A vector between a submodular and a supermodular table.
 use Rattle.std.proofs.Common.{◌≡◌, ℕ, zero, suc, true, false, ℤ, ◌-ℤ◌, ◌≤ℤ◌, refl, ◌∙◌, arith, ◌⊎◌, inl, inr}
 use Rattle.std.specs.Int.{int_min, int_max}
 use Rattle.std.proofs.lemmas.Int.{ints, clamps}
@@ -15,9 +15,6 @@ pub least-below : (k : ℕ) (f : Subset k → ℤ) (s : Subset k) → least k f 
 least-below zero f s = omega (arith, ints)
 least-below (suc k) f (false, s) = let h : least k (λ s. f (false, s)) ≤ℤ f (false, s) = least-below k (λ s. f (false, s)) s in omega (arith, ints, clamps)
 least-below (suc k) f (true, s) = let h : least k (λ s. f (true, s)) ≤ℤ f (true, s) = least-below k (λ s. f (true, s)) s in omega (arith, ints, clamps)
-
-pub int_max_one : (a b : ℤ) → (int_max a b ≡ a) ⊎ (int_max a b ≡ b)
-int_max_one a b = grind (arith, ints, clamps)
 
 pub int_min_one : (a b : ℤ) → (int_min a b ≡ a) ⊎ (int_min a b ≡ b)
 int_min_one a b = grind (arith, ints, clamps)

@@ -55,7 +55,7 @@ impl Tables {
     {
         let mut rows = Vec::new(alloc);
         for _ in 0..members {
-            add_row(&mut rows, alloc, goods)?;
+            add_row(alloc, &mut rows, goods)?;
         }
         Ok(Tables {
             goods,
@@ -107,7 +107,7 @@ pub fn share(tables: &mut Tables, supply: &Bundle, bundles: &mut [Bundle])
 }
 
 /// Adds a table of 0.
-fn add_row(rows: &mut Vec<Rho>, alloc: Global, goods: usize) -> Result<(), Memory>
+fn add_row(alloc: Global, rows: &mut Vec<Rho>, goods: usize) -> Result<(), Memory>
     requires { goods ≤ 8 }
     ensures { OnOk result (rows.new.items ≡ rows.old.items ++ replicate (2 ^ suc goods) (pos 0) ∷ []) }
 {

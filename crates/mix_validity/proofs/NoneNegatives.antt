@@ -1,8 +1,7 @@
 -- Where a choice has no facet of negative weight with any later one, no two choices have one.
-use Rattle.std.proofs.Common.{◌≡◌, ◌≢◌, ℕ, ◌≤◌, ◌<◌, ⊎_elim, ℤ, pos, ◌≤ℤ◌, arith, subst}
+use Rattle.std.proofs.Common.{ℕ, ◌<◌, ⊎_elim, ℤ, pos, ◌≤ℤ◌, arith, subst}
 use Rattle.std.proofs.lemmas.Bool.{cases_lt}
-use Rattle.mix_num.specs.Vectors.{Vector}
-use Rattle.mix_bids.specs.Bids.{Book, facet_weight, NoneNegative}
+use Rattle.mix_bids.specs.Bids.{Book, NoneNegative}
 use Rattle.mix_facets.proofs.Conclusions.{facet_weight-swap}
 use Rattle.mix_validity.specs.Refusals.{IsClear, IsClearFrom}
 

@@ -2,6 +2,8 @@
 #![tactic(auto)]
 
 mod refused;
+#[cfg(test)]
+mod tests;
 mod valid_list;
 mod validation;
 

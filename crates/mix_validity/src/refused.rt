@@ -1,17 +1,21 @@
 // Why a list of bids is refused.
-use mix_num::{Memory, Prices};
+use mix_num::Prices;
 
-/// A facet of negative weight: two choices, prices from -2,000,000 to 2,000,000, and the weight of the bids whose best
-/// set is exactly the two choices there.
+/// A facet of negative weight: at these prices the weights of the bids whose best set is exactly the two choices add up
+/// to less than 0. The choices are numbered as the goods, with 0 for the null choice.
 #[derive(Drop)]
 pub struct NotValid {
+    /// The lesser choice.
     pub first: usize,
+    /// The greater choice.
     pub second: usize,
+    /// A price for each good, from -2,000,000 to 2,000,000.
     pub prices: Prices,
+    /// The facet weight, from -4,000,000 to -1.
     pub weight: i64,
 }
 
-/// Why a list isn't taken as a valid one: some facet weight of it is negative, or memory was wanted and not there.
+/// Why a list isn't taken as a valid one: it has a facet of negative weight, or memory was wanted and not there.
 #[derive(Drop)]
 pub enum Refused {
     NotValid(NotValid),

@@ -44,7 +44,11 @@ fn refusal_of(alloc: Global, list: &BidList) -> Result<Option<NotValid>, Memory>
 }
 
 /// A facet of negative weight of a choice and a later one.
-fn refusal_with_first(alloc: Global, list: &BidList, first: usize) -> Result<Option<NotValid>, Memory>
+fn refusal_with_first(
+    alloc: Global,
+    list: &BidList,
+    first: usize,
+) -> Result<Option<NotValid>, Memory>
     requires { first < list.now.goods }
     ensures { IfOk result (λ found. MatchOption found (IsClearFrom list.now first) (IsNegativeFacet list.now)) }
 {
@@ -58,7 +62,12 @@ fn refusal_with_first(alloc: Global, list: &BidList, first: usize) -> Result<Opt
 }
 
 /// A facet of negative weight of two choices.
-fn refusal_of_pair(alloc: Global, list: &BidList, first: usize, second: usize) -> Result<Option<NotValid>, Memory>
+fn refusal_of_pair(
+    alloc: Global,
+    list: &BidList,
+    first: usize,
+    second: usize,
+) -> Result<Option<NotValid>, Memory>
     requires order { first < second }
     requires within { second ≤ list.now.goods }
     ensures { IfOk result (λ found. MatchOption found (IsClear list.now first second) (IsNegativeFacet list.now)) }
@@ -73,7 +82,13 @@ fn refusal_of_pair(alloc: Global, list: &BidList, first: usize, second: usize) -
 }
 
 /// A facet of negative weight of two choices, at prices that differ by the difference of a level of theirs.
-fn refusal_at_level(alloc: Global, list: &BidList, first: usize, second: usize, level: &Level) -> Result<Option<NotValid>, Memory>
+fn refusal_at_level(
+    alloc: Global,
+    list: &BidList,
+    first: usize,
+    second: usize,
+    level: &Level,
+) -> Result<Option<NotValid>, Memory>
     requires level { IsLevelOf list.now level.now }
     requires first { level.now.first ≡ first }
     requires second { level.now.second ≡ second }
@@ -89,7 +104,13 @@ fn refusal_at_level(alloc: Global, list: &BidList, first: usize, second: usize, 
 }
 
 /// The facet of two choices at a point of a level of theirs, if its weight is negative.
-fn refusal_at_point(list: &BidList, first: usize, second: usize, level: &Level, point: &Point) -> Option<NotValid>
+fn refusal_at_point(
+    list: &BidList,
+    first: usize,
+    second: usize,
+    level: &Level,
+    point: &Point,
+) -> Option<NotValid>
     requires level { IsLevelOf list.now level.now }
     requires first { level.now.first ≡ first }
     requires second { level.now.second ≡ second }

@@ -2,19 +2,65 @@
 use Rattle.std.proofs.Common.{◌≡◌, ◌≢◌, ◌<◌, ◌∙◌, sym, ap, inl, inr, arith, ℕ, List, [], ◌∷◌, Option, Some, None, refl, subst}
 use Rattle.std.specs.Prelude.{IfSome, codes}
 use Rattle.std.proofs.lemmas.Fmt.{decimal_digit}
+use Rattle.std.proofs.lemmas.Int.{ints}
+use Rattle.mix_num.specs.Vectors.{with_null}
+use Rattle.mix_text.specs.Bidders.{Named, list_at}
+use Rattle.mix_answer.specs.declared.refusal.Refusal.{Refusal}
 use Rattle.mix_text.specs.declared.faults.TextError.{TextError}
 use Rattle.mix_text.specs.declared.faults.TextError.TheVariants as error
 use Rattle.mix_io.specs.Given.{IsLonger}
 use Rattle.product_mix.specs.Outputs.{Output, one_row, refusal, too_long}
-use Rattle.product_mix.specs.Calls.{HasFault, HasLimit, IsAnswered, IsDone, IsOutput, IsRefused, IsWanted, IsWrong, IsWritten}
+use Rattle.product_mix.specs.Calls.{HasFault, HasInvalid, HasLimit, IsAnswered, IsDone, IsOutput, IsUnmet, IsWanted, IsWrong, IsWritten}
 use Rattle.product_mix.specs.declared.words.Command.{Command}
-use Rattle.product_mix.specs.declared.words.Command.TheVariants.{Utility}
+use Rattle.product_mix.specs.declared.words.Command.TheVariants.{Utility, Validate}
+use Rattle.product_mix.specs.Validities.{IsTrueRefusal, IsValid}
 
 status_of : (a b : Output) → a ≡ b → a.status ≡ b.status
 status_of a b e = ap (λ (o : Output). o.status) e
 
 done_status : (command : Command) (text : List ℕ) (output : Output) → IsDone command text output → output.status < 2
 done_status Utility text output done = omega (arith, status_of _ _ done.2)
+done_status Validate text output done = elim done.2 [
+  | inl valid ↦ omega (arith, status_of _ _ valid.1)
+  | inr refused ↦ omega (arith, status_of _ _ refused.2)
+]
+
+-- the list of a bidder that is truly refused isn't valid
+refused_invalid : (bidders : Named) (r : Refusal) → IsTrueRefusal bidders r → ¬ IsValid (list_at bidders r.bidder)
+refused_invalid bidders r refused valid =
+    let facet = refused.facet in
+    let none = valid r.first r.second (omega (arith, facet.order, facet.within)) facet.within (λ same. omega (arith, same, facet.order)) (with_null r.prices.items) in
+    omega (arith, ints, none, facet.weight, facet.negative)
+
+-- an output with status 1 that is wanted of a text shows a list that isn't valid
+invalid_done : (command : Command) (text : List ℕ) (output : Output) → IsDone command text output → output.status ≡ 1 → IsUnmet command text
+invalid_done Utility text output done s = absurd (omega (arith, s, status_of _ _ done.2))
+invalid_done Validate text output done s = elim done.2 [
+  | inl valid ↦ absurd (omega (arith, s, status_of _ _ valid.1))
+  | inr refused ↦ (done.0, done.1, refused.0.bidder, refused.1.bidder, refused_invalid done.0.bidders refused.0 refused.1)
+]
+
+refusal_status : (e : TextError) → (refusal e).status ≡ 1 → ⊥
+refusal_status (error.Fault fault) s = omega (arith, s)
+refusal_status (error.Limit limit) s = omega (arith, s)
+refusal_status error.Memory s = omega (arith, s)
+
+invalid_output : (command : Command) (text : List ℕ) (output : Output) → IsOutput command text output → output.status ≡ 1 → HasInvalid (Some command) (Some text)
+invalid_output command text output is s = elim is [
+  | inl long ↦ absurd (omega (arith, s, status_of _ _ long.1))
+  | inr short ↦ elim short.1 [
+    | inl refused ↦ absurd (refusal_status refused.0 (sym (status_of _ _ refused.2) ∙ s))
+    | inr done ↦ invalid_done command text output done s
+  ]
+]
+
+invalid_wanted : (command : Option Command) (text : Option (List ℕ)) (P : Type 0) (output : Output) → IsWanted command text P output → output.status ≡ 1 → HasInvalid command text
+invalid_wanted None text P output w s = absurd (omega (arith, s, status_of _ _ w.unknown))
+invalid_wanted (Some command) None P output w s = tt
+invalid_wanted (Some command) (Some text) P output w s = elim w.known [
+  | inl unread ↦ absurd (omega (arith, s, status_of _ _ unread.1))
+  | inr is ↦ invalid_output command text output is s
+]
 
 -- an output with status 3 that is wanted of a text shows a fault
 fault_wrong : (command : Command) (text : List ℕ) (e : TextError) → IsWrong command text e → (refusal e).status ≡ 3 → HasFault (Some command) (Some text)
@@ -66,7 +112,11 @@ limit_wanted (Some command) (Some text) P output w s = elim w.known [
 whole_status : (output : Output) (P : Type 0) (taken now : Option (List ℕ)) (status : ℕ) → IsWritten output P taken now status → status ≢ 6 → output.status ≡ status
 whole_status output P taken now status w h = sym (w.whole h).0
 
--- status 3 comes only of a fault, and status 4 only of a limit
+-- status 1 comes only of a list that isn't valid, status 3 only of a fault, and status 4 only of a limit
+pub invalid_cause : (command : Option Command) (text : Option (List ℕ)) (P Q : Type 0) (taken now : Option (List ℕ)) (status : ℕ) → IsAnswered command text P Q taken now status → status ≡ 1 → HasInvalid command text
+invalid_cause command text P Q taken now status a h =
+    invalid_wanted command text P a.output a.wanted (whole_status a.output Q taken now status a.written (λ six. omega (arith, six, h)) ∙ h)
+
 pub fault_cause : (command : Option Command) (text : Option (List ℕ)) (P Q : Type 0) (taken now : Option (List ℕ)) (status : ℕ) → IsAnswered command text P Q taken now status → status ≡ 3 → HasFault command text
 fault_cause command text P Q taken now status a h =
     fault_wanted command text P a.output a.wanted (whole_status a.output Q taken now status a.written (λ six. omega (arith, six, h)) ∙ h)

@@ -3,3 +3,5 @@ mod PrintableWords
 mod PrintedRows
 mod ReadPrices
 mod SoundBidders
+mod Taken
+mod TrueRefusals

@@ -1,5 +1,5 @@
 -- Rows that are printed one after the other.
-use Rattle.std.proofs.Common.{◌≡◌, ◌<◌, ◌≤◌, ◌+◌, ℕ, suc, List, [], ◌∷◌, ◌++◌, length, drop, get_or, map, sym, ◌∙◌, ap, arith, refl, add-one, append_assoc}
+use Rattle.std.proofs.Common.{◌≡◌, ◌<◌, ◌≤◌, ◌+◌, ℕ, suc, List, ◌++◌, length, drop, get_or, map, sym, ◌∙◌, ap, add-one, append_assoc}
 use Rattle.std.proofs.Math.Seq.{drop-cons}
 use Rattle.std.proofs.lemmas.List.{append-nil, drop_all}
 use Rattle.mix_text.specs.Pages.{line_of, printed}
@@ -17,8 +17,3 @@ row_more {X = X} row xs k d before now h e =
 -- no row is to come
 pub none_more : {X : Type 0} (row : X → List (List ℕ)) (xs : List X) (k : ℕ) (now : List ℕ) → length xs ≤ k → now ++ printed (map row (drop k xs)) ≡ now
 none_more row xs k now h = rw (drop_all k xs h) (append-nil now)
-
--- one row after these
-pub printed_last : (lines : List (List (List ℕ))) (fields : List (List ℕ)) → printed lines ++ line_of fields ≡ printed (lines ++ (fields ∷ []))
-printed_last [] fields = sym (append-nil (line_of fields))
-printed_last (first ∷ lines) fields = append_assoc (line_of first) (printed lines) (line_of fields) ∙ ap (λ (text : List ℕ). line_of first ++ text) (printed_last lines fields)

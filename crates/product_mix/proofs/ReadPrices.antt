@@ -1,5 +1,5 @@
 -- Prices that are read are prices.
-use Rattle.std.proofs.Common.{◌≡◌, ◌≤ℤ◌, ◌<◌, ◌+◌, ◌==◌, ℕ, ℤ, suc, pos, neg_ℤ, List, [], ◌∷◌, length, drop, ap, arith, refl, subst, Ok, Err, Result, Bool, true, false, All}
+use Rattle.std.proofs.Common.{◌≡◌, ◌+◌, ◌==◌, ℕ, ℤ, suc, pos, neg_ℤ, List, [], ◌∷◌, length, drop, ap, arith, refl, subst, Ok, Err, Result, Bool, true, false, All}
 use Rattle.std.specs.Prelude.{codes}
 use Rattle.std.proofs.lemmas.Bool.Decides.{nat_tests}
 use Rattle.std.proofs.lemmas.Int.{ints}
@@ -27,7 +27,6 @@ holds_ok false c u e = cc e
 
 equal_numbers : (a b : ℕ) → (a == b) ≡ true → a ≡ b
 equal_numbers a b h = grind (arith, nat_tests)
-
 
 each_price : (fields : List (List ℕ)) (xs : List ℤ) → each_of (number_in (neg_ℤ (pos 2000000)) (pos 2000000)) fields ≡ Ok xs → (length xs ≡ length fields) × All (Lies 2000000) xs
 each_price [] xs e = let same : [] ≡ xs = cc e in subst (λ (z : List ℤ). (length z ≡ 0) × All (Lies 2000000) z) same (refl, All-nil (Lies 2000000))

@@ -1,10 +1,9 @@
 -- The bidders of an auction: their names, and the goods of their bids.
-use Rattle.std.proofs.Common.{◌≡◌, ◌<◌, ◌∙◌, sym, ap, subst, true, ℕ, ℤ, List, [], length, map, arith}
+use Rattle.std.proofs.Common.{◌≡◌, ◌<◌, ◌∙◌, sym, ap, true, ℕ, List, [], length, arith}
 use Rattle.std.proofs.lemmas.List.{get_or-map, length-map}
-use Rattle.mix_num.specs.Ranges.{ArePrices}
 use Rattle.mix_bids.specs.Bids.{Book}
 use Rattle.mix_text.specs.Auctions.{AuctionText, IsAuction}
-use Rattle.mix_text.specs.Bidders.{bidder_at, list_at, name_at}
+use Rattle.mix_text.specs.Bidders.{name_at}
 use Rattle.mix_text.specs.Spelling.{is_name}
 
 -- the name of the bidder at a place has the form of a name

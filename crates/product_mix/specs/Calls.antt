@@ -1,23 +1,27 @@
 -- What a call of the program owes: which output is wanted of the words and the text, and how far it is written.
 use Rattle.std.specs.Prelude.{◌≡◌, ◌≢◌, ◌<◌, ◌≤◌, ◌⊎◌, ℕ, List, length, Option, Ok, Err, IfNone, IfSome, IsSomeAnd}
-use Rattle.std.specs.Io.KnownBytes.{Appends}
+use Rattle.std.specs.Io.KnownBytes.{Appends, Consumes}
 use Rattle.mix_io.specs.Given.{AppendsPrefix}
 use Rattle.mix_text.specs.declared.faults.Fault.{Fault}
 use Rattle.mix_text.specs.declared.faults.Limit.{Limit}
 use Rattle.mix_text.specs.declared.faults.TextError.{TextError}
 use Rattle.mix_text.specs.declared.faults.TextError.TheVariants as error
 use Rattle.product_mix.specs.Outputs.{Output, most_bytes, refusal, too_long, unknown_words, unread}
+use Rattle.product_mix.specs.Readings.{auction_alone}
 use Rattle.product_mix.specs.Utilities.{utility_text}
+use Rattle.product_mix.specs.Validities.{IsInvalid, IsValidityOf}
 use Rattle.product_mix.specs.declared.words.Command.{Command}
-use Rattle.product_mix.specs.declared.words.Command.TheVariants.{Utility}
+use Rattle.product_mix.specs.declared.words.Command.TheVariants.{Utility, Validate}
 
 -- a text isn't as the command wants it, and this is wrong first
 abbrev pub IsWrong : Command → List ℕ → TextError → Type 0
 IsWrong Utility text e = utility_text text ≡ Err e
+IsWrong Validate text e = auction_alone text ≡ Err e
 
 -- a text is as the command wants it, and this comes of it
 abbrev pub IsDone : Command → List ℕ → Output → Type 0
 IsDone Utility text output = (bytes : List ℕ) × (utility_text text ≡ Ok bytes) × (output ≡ record { status = 0; bytes = bytes })
+IsDone Validate text output = IsValidityOf text output
 
 -- a text is refused, and this comes of it: what is wrong first, whatever the command
 abbrev pub IsRefused : Command → List ℕ → Output → Type 0
@@ -56,3 +60,16 @@ HasFault command text = IsSomeAnd command (λ c. IfSome text (λ bytes. (fault :
 -- the words call a command, and the text, where it is told, has too many bytes or passes a limit before it has a fault
 abbrev pub HasLimit : Option Command → Option (List ℕ) → Type 0
 HasLimit command text = IsSomeAnd command (λ c. IfSome text (λ bytes. (most_bytes < length bytes) ⊎ ((limit : Limit) × IsWrong c bytes (error.Limit limit))))
+
+-- a text is as the command wants it, but some bidder's list isn't valid, and the command needs valid lists
+abbrev pub IsUnmet : Command → List ℕ → Type 0
+IsUnmet Utility text = ⊥
+IsUnmet Validate text = IsInvalid text
+
+-- the words call a command that needs valid lists, and in the text, where it is told, some bidder's list isn't valid
+abbrev pub HasInvalid : Option Command → Option (List ℕ) → Type 0
+HasInvalid command text = IsSomeAnd command (λ c. IfSome text (λ bytes. IsUnmet c bytes))
+
+-- at most n bytes were taken from the front of those that are left, where they are told
+abbrev pub TakesAtMost : ℕ → Option (List ℕ) → Option (List ℕ) → Type 0
+TakesAtMost n old new = (bytes : List ℕ) × (length bytes ≤ n) × Consumes old new bytes

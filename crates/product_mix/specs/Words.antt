@@ -6,7 +6,7 @@ use Rattle.mix_text.specs.declared.faults.Code.TheVariants as code
 use Rattle.mix_text.specs.declared.faults.What.{What}
 use Rattle.mix_text.specs.declared.faults.What.TheVariants as what
 use Rattle.product_mix.specs.declared.words.Command.{Command}
-use Rattle.product_mix.specs.declared.words.Command.TheVariants.{Utility}
+use Rattle.product_mix.specs.declared.words.Command.TheVariants.{Utility, Validate}
 
 -- whether a word is the only one
 abbrev pub are_alone : List (List ℕ) → List ℕ → Bool
@@ -14,7 +14,10 @@ are_alone words word = (length words == 1) && bytes_eq (slice_index_or words 0 [
 
 -- the command that the words call, if they call one
 abbrev pub command_of : List (List ℕ) → Option Command
-command_of words = if are_alone words (codes "utility") then Some Utility else None
+command_of words =
+    if are_alone words (codes "utility") then Some Utility
+    else if are_alone words (codes "validate") then Some Validate
+    else None
 
 -- the word for what is wrong with a row
 abbrev pub code_word : Code → List ℕ

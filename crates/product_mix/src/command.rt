@@ -5,12 +5,13 @@ ghost use Rattle.std.specs.String.{string_bytes};
 ghost use Rattle.mix_io.specs.Causes.{Rose};
 ghost use Rattle.mix_io.specs.Given.{IsLonger};
 ghost use Rattle.product_mix.specs.Answers.{output_of};
-ghost use Rattle.product_mix.specs.Calls.{HasFault, HasLimit, IsAnswered, IsDone, IsOutput, IsWritten, WritesFor, IsWrong};
+ghost use Rattle.product_mix.specs.Calls.{HasFault, HasInvalid, HasLimit, IsAnswered, IsDone, IsOutput, IsWritten, IsWrong, TakesAtMost, WritesFor};
 ghost use Rattle.product_mix.specs.Words.{command_of};
 
 use crate::answer::Answer;
 use crate::refusal::refused;
 use crate::utility::print_utilities;
+use crate::validity::print_validity;
 use crate::words::Command;
 use mix_io::{ReadRefused, Sink, Source, read_all, write_all};
 use mix_num::Memory;
@@ -21,10 +22,15 @@ use std::alloc::Global;
 const MOST_BYTES: usize = 4_194_304;
 
 const DONE: u8 = 0;
+
 const UNKNOWN_WORDS: u8 = 2;
+
 const TOO_LONG: u8 = 4;
+
 const UNREAD: u8 = 5;
+
 const UNWRITTEN: u8 = 6;
+
 const NO_MEMORY: u8 = 7;
 
 // Writes a text, and gives its status, or that the writing failed.
@@ -54,6 +60,7 @@ fn done(alloc: Global, command: Command, text: &[u8]) -> Result<Answer, TextErro
                 bytes,
             })
         }
+        Command::Validate => print_validity(alloc, text),
     }
 }
 
@@ -84,7 +91,13 @@ fn answer_out<K: Sink>(alloc: Global, command: Command, text: &[u8], output: &mu
 }
 
 // Does the command on the bytes of the input; None is that of words which call no command.
-fn perform<I: Source, K: Sink>(alloc: Global, command: Option<Command>, input: &mut I, output: &mut K) -> u8
+#[tactic(auto, using(crate::proofs::Taken::takes_none))]
+fn perform<I: Source, K: Sink>(
+    alloc: Global,
+    command: Option<Command>,
+    input: &mut I,
+    output: &mut K,
+) -> u8
     ensures range { result < 8 }
     ensures answer { result ≢ 7 → IsAnswered command (I.left input.old) (Rose (I.faults input.old) (I.faults input.new)) (Rose (K.faults output.old) (K.faults output.new)) (K.taken output.old) (K.taken output.new) result }
     ensures memory { result ≡ 7 → IsSome command × Keeps (K.taken output.old) (K.taken output.new) }
@@ -94,6 +107,7 @@ fn perform<I: Source, K: Sink>(alloc: Global, command: Option<Command>, input: &
     ensures unwritten { result ≡ 6 → Rose (K.faults output.old) (K.faults output.new) }
     ensures at_end { (result ≡ 0) ⊎ (result ≡ 1) ⊎ (result ≡ 3) → IsAtEnd (I.left input.new) }
     ensures at_end_or_long { result ≡ 4 → IsAtEnd (I.left input.new) ⊎ IsLonger (I.left input.old) 4194304 }
+    ensures taken { TakesAtMost 4194305 (I.left input.old) (I.left input.new) }
     ensures untouched { command ≡ None → input.new ≡ input.old }
 {
     let Some(command) = command else {
@@ -107,10 +121,10 @@ fn perform<I: Source, K: Sink>(alloc: Global, command: Option<Command>, input: &
     }
 }
 
-#[tactic(auto, using(crate::proofs::Causes::fault_cause, crate::proofs::Causes::limit_cause, crate::proofs::Causes::no_failure))]
+#[tactic(auto, using(crate::proofs::Causes::fault_cause, crate::proofs::Causes::invalid_cause, crate::proofs::Causes::limit_cause, crate::proofs::Causes::no_failure))]
 /// Does the command of the words on the bytes of the input, and gives the status.
 ///
-/// 0: the command was done. 2: the words call no command; then nothing is read, and no memory taken. 3: the text has a
+/// 0: the command was done. 1: it needs valid lists, and some bidder's list isn't. 2: the words call no command; then nothing is read, and no memory taken. 3: the text has a
 /// fault. 4: it passes a limit, or has more than 4,194,304 bytes. 5: a read failed. 6: a write failed, and a prefix of
 /// the text was written. 7: memory was wanting, and nothing was written. With every other status the whole text was
 /// written.
@@ -124,13 +138,15 @@ pub fn run<I: Source, K: Sink>(alloc: Global, words: &[String], input: &mut I, o
     // What each status means.
     ensures unknown { command_of (map (λ w. string_bytes w) words.now) ≡ None → (result ≡ 2) ⊎ (result ≡ 6) }
     ensures known { result ≡ 2 → command_of (map (λ w. string_bytes w) words.now) ≡ None }
+    ensures invalid { result ≡ 1 → HasInvalid (command_of (map (λ w. string_bytes w) words.now)) (I.left input.old) }
     ensures fault { result ≡ 3 → HasFault (command_of (map (λ w. string_bytes w) words.now)) (I.left input.old) }
     ensures limit { result ≡ 4 → HasLimit (command_of (map (λ w. string_bytes w) words.now)) (I.left input.old) }
     ensures unread { result ≡ 5 → Rose (I.faults input.old) (I.faults input.new) }
     ensures unwritten { result ≡ 6 → Rose (K.faults output.old) (K.faults output.new) }
     ensures memory { result ≡ 7 → IsSome (command_of (map (λ w. string_bytes w) words.now)) × Keeps (K.taken output.old) (K.taken output.new) }
 
-    // What is left of the input.
+    // What is taken and what is left of the input.
+    ensures taken { TakesAtMost 4194305 (I.left input.old) (I.left input.new) }
     ensures at_end { (result ≡ 0) ⊎ (result ≡ 1) ⊎ (result ≡ 3) → IsAtEnd (I.left input.new) }
     ensures at_end_or_long { result ≡ 4 → IsAtEnd (I.left input.new) ⊎ IsLonger (I.left input.old) 4194304 }
     ensures untouched { command_of (map (λ w. string_bytes w) words.now) ≡ None → input.new ≡ input.old }

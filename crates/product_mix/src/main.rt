@@ -8,6 +8,7 @@ mod rows;
 #[cfg(test)]
 mod tests;
 mod utility;
+mod validity;
 mod words;
 
 use mix_io::{StdSink, StdSource};

@@ -11,6 +11,7 @@ use mix_text::{Fault, Limit, Page, TextError};
 use std::alloc::Global;
 
 const FAULT: u8 = 3;
+
 const LIMIT: u8 = 4;
 
 // The row of a fault by itself.

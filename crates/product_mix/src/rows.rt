@@ -1,10 +1,11 @@
 // The rows that the program prints, one function for each kind.
 ghost use Rattle.std.specs.Prelude.{◌≡◌, ◌<◌, ◌++◌, ◌∷◌, [], codes, decimal, length, OnOk};
 ghost use Rattle.mix_num.specs.Ranges.{ArePrices};
-ghost use Rattle.mix_text.specs.Bidders.{bidder_at};
+ghost use Rattle.mix_text.specs.Bidders.{bidder_at, name_at};
 ghost use Rattle.mix_text.specs.Pages.{line_of};
 ghost use Rattle.product_mix.specs.Outputs.{fault_row, limit_row};
 ghost use Rattle.product_mix.specs.Utilities.{utility_row};
+ghost use Rattle.product_mix.specs.Validities.{valid_row};
 
 use crate::words::{word_of_code, word_of_limit};
 use itoa::Buffer;
@@ -44,18 +45,46 @@ pub fn add_limit(page: &mut Page, limit: Limit) -> Result<(), Memory>
     page.end_row()
 }
 
+// Adds the name of the bidder at a place, from 0, to the open row.
+fn add_name(page: &mut Page, auction: &Auction, k: usize) -> Result<(), Memory>
+    requires { k < length auction.now.bidders }
+    ensures { OnOk result (page.new ≡ record page.old { fields = page.old.fields ++ name_at auction.now.bidders k ∷ [] }) }
+{
+    let (name, _) = auction.bidder(k);
+    page.text(name.as_str().as_bytes())
+}
+
 /// Adds the row of the indirect utility of the bidder at a place, from 0, at the prices.
-pub fn add_utility(page: &mut Page, auction: &Auction, k: usize, prices: &Prices) -> Result<(), Memory>
+pub fn add_utility(
+    page: &mut Page,
+    auction: &Auction,
+    k: usize,
+    prices: &Prices,
+) -> Result<(), Memory>
     requires closed { page.old.fields ≡ [] }
     requires place { k < length auction.now.bidders }
     requires prices { ArePrices (length auction.now.goods) prices.now.items }
     ensures { OnOk result (page.new ≡ record { ended = page.old.ended ++ line_of (utility_row prices.now.items (bidder_at auction.now.bidders k)); fields = [] }) }
 {
-    let (name, list) = auction.bidder(k);
+    let (_, list) = auction.bidder(k);
     let value = list.utility(prices);
     page.text(b"utility")?;
-    page.text(name.as_str().as_bytes())?;
+    add_name(page, auction, k)?;
     page.number(value)?;
+    page.end_row()
+}
+
+/// Adds the row of the bidder at a place, from 0, whose list is valid: its total.
+pub fn add_valid(page: &mut Page, auction: &Auction, k: usize) -> Result<(), Memory>
+    requires closed { page.old.fields ≡ [] }
+    requires place { k < length auction.now.bidders }
+    ensures { OnOk result (page.new ≡ record { ended = page.old.ended ++ line_of (valid_row (bidder_at auction.now.bidders k)); fields = [] }) }
+{
+    let (_, list) = auction.bidder(k);
+    let total = list.total();
+    page.text(b"valid")?;
+    add_name(page, auction, k)?;
+    page.number(total)?;
     page.end_row()
 }
 

@@ -4,18 +4,29 @@ use mix_io::{MemorySink, MemorySource};
 use std::alloc::Global;
 use std::test::Fail;
 
-const AUCTION: &[u8] = b"mix,1\ngoods,A,B\nsupply,1,1\nreserve,0,0\nbid,X,1,4,-\nbid,X,1,-,4\nbid,X,1,6,6\nbid,X,-1,4,4\nbid,Y,1,5,-\nend\n";
+const AUCTION: &[u8] =
+    b"mix,1\ngoods,A,B\nsupply,1,1\nreserve,0,0\nbid,X,1,4,-\nbid,X,1,-,4\nbid,X,1,6,6\nbid,X,-1,4,4\nbid,Y,1,5,-\nend\n";
 
 // Bids of one good follow.
 const ONE_GOOD: &[u8] = b"mix,1\ngoods,A\nsupply,1\nreserve,0\n";
 
+// Bids of two goods follow.
+const TWO_GOODS: &[u8] = b"mix,1\ngoods,A,B\nsupply,1,1\nreserve,0,0\n";
+
 // The auction as a spreadsheet saves it, up to its last bid.
-const SPREAD: &[u8] = b"mix,1,,,\r\ngoods,A,B,,\r\nsupply,1,1,,\r\nreserve,0,0,,\r\nbid,X,1,4,-\r\nbid,X,1,-,4\r\nbid,X,1,6,6\r\nbid,X,-1,4,4\r\nbid,Y,1,5,-\r\n,,,,\r\n";
+const SPREAD: &[u8] =
+    b"mix,1,,,\r\ngoods,A,B,,\r\nsupply,1,1,,\r\nreserve,0,0,,\r\nbid,X,1,4,-\r\nbid,X,1,-,4\r\nbid,X,1,6,6\r\nbid,X,-1,4,4\r\nbid,Y,1,5,-\r\n,,,,\r\n";
 
 const MARK: &[u8] = b"\xEF\xBB\xBF";
 
 // What stands at the front, and then `count` times `line`, and then `tail`.
-fn text_of(alloc: Global, front: &[u8], line: &[u8], count: usize, tail: &[u8]) -> Result<Vec<u8>, Fail> {
+fn text_of(
+    alloc: Global,
+    front: &[u8],
+    line: &[u8],
+    count: usize,
+    tail: &[u8],
+) -> Result<Vec<u8>, Fail> {
     let mut text = front.to_vec(alloc)?;
     for _ in 0..count {
         text.extend_from_slice(line)?;
@@ -25,7 +36,13 @@ fn text_of(alloc: Global, front: &[u8], line: &[u8], count: usize, tail: &[u8]) 
 }
 
 // A call with these words, from a source of pieces of 8 bytes whose listed calls fail to a sink with room for `room` bytes.
-fn call(alloc: Global, words: &[&str], text: Vec<u8>, fails: Vec<u64>, room: usize) -> Result<(u8, MemorySink), Fail> {
+fn call(
+    alloc: Global,
+    words: &[&str],
+    text: Vec<u8>,
+    fails: Vec<u64>,
+    room: usize,
+) -> Result<(u8, MemorySink), Fail> {
     let mut named = Vec::new(alloc);
     for word in words {
         named.push(String::from_str(alloc, word)?)?;
@@ -136,5 +153,77 @@ fn words_and_devices(rt: HostRuntime) -> Result<(), Fail> {
     let (answer, sink) = call(alloc, &["utility"], text, Vec::new(alloc), 10)?;
     assert_eq!(rt; answer, 6);
     assert_eq!(rt; sink.bytes(), b"utility,X,".as_slice());
+    Ok(())
+}
+
+#[test]
+fn validities(rt: HostRuntime) -> Result<(), Fail> {
+    let alloc = rt.alloc();
+    let cases: [(&[u8], &[u8], usize, &[u8], u8, &[u8]); 4] = [
+        (AUCTION, b"", 0, b"", 0, b"valid,X,2\nvalid,Y,1\nend\n"),
+        (
+            ONE_GOOD,
+            b"bid,P,-1,5\n",
+            12,
+            b"end\n",
+            1,
+            b"outcome,1\nrefused,P,-,A,5,-12\nend\n",
+        ),
+        (
+            ONE_GOOD,
+            b"bid,P,-1,5\n",
+            13,
+            b"end\n",
+            4,
+            b"limit,17,negatives\n",
+        ),
+        (ONE_GOOD, b"", 0, b"end\nend\n", 3, b"fault,6,after\n"),
+    ];
+    for (front, line, count, tail, status, output) in cases {
+        let text = text_of(alloc, front, line, count, tail)?;
+        let (answer, sink) = call(alloc, &["validate"], text, Vec::new(alloc), 64)?;
+        assert_eq!(rt; answer, status);
+        assert_eq!(rt; sink.bytes(), output);
+    }
+    Ok(())
+}
+
+// Whether X is refused for A and B at one price of both, at most `most`, with weight -1.
+fn refused_at_one_price(alloc: Global, output: &[u8], most: i64) -> Result<bool, Fail> {
+    for price in -20..=most {
+        let text =
+            format!(in alloc; "outcome,1\nrefused,X,A,B,{price},{price},-1\nend\n")?;
+        if text.as_bytes() == output {
+            return Ok(true);
+        }
+    }
+    Ok(false)
+}
+
+// Which facet is told is free: those of the first three texts have A and B at one price each, of at most 5 or -1; those
+// of the last have nothing and A at a price of 5 for A, and at least 9 for the other two.
+#[test]
+fn refusals(rt: HostRuntime) -> Result<(), Fail> {
+    let alloc = rt.alloc();
+    let cases: [(&[u8], &[u8], i64); 3] = [
+        (b"bid,X,1,6,-\nbid,X,1,-,6\nbid,X,-1,6,6\n", b"end\n", 5),
+        (b"bid,X,1,0,-\nbid,X,1,-,0\nbid,X,-1,0,0\n", b"end\n", -1),
+        (
+            b"bid,X,1,6,-\nbid,X,1,-,6\nbid,X,-1,6,6\n",
+            b"bid,Z,1,6,-\nbid,Z,1,-,6\nbid,Z,-1,6,6\nend\n",
+            5,
+        ),
+    ];
+    for (bids, tail, most) in cases {
+        let text = text_of(alloc, TWO_GOODS, bids, 1, tail)?;
+        let (answer, sink) = call(alloc, &["validate"], text, Vec::new(alloc), 64)?;
+        assert_eq!(rt; answer, 1);
+        assert!(rt; refused_at_one_price(alloc, sink.bytes(), most)?);
+    }
+    let text = b"mix,1\ngoods,A,B,C\nsupply,1,1,1\nreserve,0,0,0\nbid,X,1,5,2,2\nbid,X,-1,5,2,8\nbid,X,-1,5,8,2\nbid,X,1,-,8,2\nbid,X,1,-,2,8\nbid,X,1,6,9,-\nbid,X,1,6,-,9\nend\n";
+    let (answer, sink) = call(alloc, &["validate"], text.to_vec(alloc)?, Vec::new(alloc), 64)?;
+    assert_eq!(rt; answer, 1);
+    assert!(rt; sink.bytes().starts_with(b"outcome,1\nrefused,X,-,A,5,"));
+    assert!(rt; sink.bytes().ends_with(b",-1\nend\n"));
     Ok(())
 }

@@ -3,7 +3,7 @@ ghost use Rattle.std.specs.Prelude.{◌≡◌, ◌≤◌, ◌++◌, [], length, 
 ghost use Rattle.mix_num.specs.Ranges.{ArePrices};
 ghost use Rattle.mix_text.specs.Pages.{printed};
 ghost use Rattle.mix_text.specs.Reading.{IsFromText};
-ghost use Rattle.product_mix.specs.Utilities.{utility_row, utility_rows, utility_text};
+ghost use Rattle.product_mix.specs.Utilities.{utility_page, utility_row, utility_text};
 
 use crate::rows::{add_end, add_utility};
 use mix_num::{Memory, Prices};
@@ -28,7 +28,7 @@ fn add_utilities(page: &mut Page, auction: &Auction, prices: &Prices) -> Result<
 // The rows of all bidders, and the last row.
 fn utilities(alloc: Global, auction: &Auction, prices: &Prices) -> Result<Vec<u8>, Memory>
     requires { ArePrices (length auction.now.goods) prices.now.items }
-    ensures { IfOk result (λ bytes. bytes.items ≡ printed (utility_rows auction.now.bidders prices.now.items)) }
+    ensures { IfOk result (λ bytes. bytes.items ≡ utility_page auction.now.bidders prices.now.items) }
 {
     let mut page = Page::new(alloc);
     add_utilities(&mut page, auction, prices)?;

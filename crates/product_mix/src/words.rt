@@ -11,6 +11,8 @@ use mix_text::{Code, What};
 pub enum Command {
     /// Print each bidder's indirect utility at given prices.
     Utility,
+    /// Print each bidder's total, where every list of bids is valid.
+    Validate,
 }
 
 impl Command {
@@ -20,6 +22,8 @@ impl Command {
     {
         if is_alone(words, "utility") {
             Some(Command::Utility)
+        } else if is_alone(words, "validate") {
+            Some(Command::Validate)
         } else {
             None
         }

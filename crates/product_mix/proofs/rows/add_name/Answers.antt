@@ -3,12 +3,12 @@ use Rattle.mix_text.specs.Bidders.{name_at}
 use Rattle.mix_text.specs.Pages.{is_printable}
 use Rattle.mix_text.proofs.Spellings.{name_printable}
 use Rattle.product_mix.proofs.SoundBidders.{name_at_ok}
-use Rattle.product_mix.proofs.rows.add_utility.Goals as goal
+use Rattle.product_mix.proofs.rows.add_name.Goals as goal
 
-pub text-requires-2 : goal.text-requires-2
-text-requires-2 c =
+pub text-requires : goal.text-requires
+text-requires c =
     let bytes = c.as_bytes.ensures.value in
     let text = c.as_str.ensures.value in
     let name = c.bidder.ensures.name in
     let same : c.as_bytes.result.now ≡ name_at c.args.auction.now.bidders c.args.k = cc in
-    ap is_printable same ∙ name_printable (name_at c.args.auction.now.bidders c.args.k) (name_at_ok _ c.args.k c.args.auction.now.sound c.requires.place)
+    ap is_printable same ∙ name_printable (name_at c.args.auction.now.bidders c.args.k) (name_at_ok _ c.args.k c.args.auction.now.sound c.requires)

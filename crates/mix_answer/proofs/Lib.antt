@@ -1,0 +1,2 @@
+pub mod AuctionNames
+pub mod PrintedPages
