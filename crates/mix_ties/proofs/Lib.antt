@@ -9,3 +9,4 @@ pub mod Gifts
 pub mod Extents
 pub mod RowTurns
 pub mod SellerRows
+pub mod ZeroRows

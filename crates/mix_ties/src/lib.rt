@@ -5,6 +5,8 @@
 mod contraction;
 mod rows;
 mod tables;
+#[cfg(test)]
+mod tests;
 mod turn;
 
 pub use tables::{Tables, share};

@@ -51,7 +51,8 @@ impl Tables {
     pub fn reserve(alloc: Global, goods: usize, members: usize) -> Result<Tables, Memory>
         requires goods { (1 ≤ goods) × (goods ≤ 8) }
         requires members { (1 ≤ members) × (members ≤ 257) }
-        ensures { IfOk result (λ tables. (tables.goods ≡ goods) × (length tables.rows ≡ members)) }
+        ensures size { IfOk result (λ tables. (tables.goods ≡ goods) × (length tables.rows ≡ members)) }
+        ensures zeros { IfOk result (λ tables. All (λ row. row ≡ replicate (2 ^ suc goods) (pos 0)) tables.rows) }
     {
         let mut rows = Vec::new(alloc);
         for _ in 0..members {

@@ -1,5 +1,5 @@
 -- A true refusal of an auction has the shape of the auction.
-use Rattle.std.proofs.Common.{◌≡◌, ◌≤◌, ◌<◌, ◌*◌, ◌+◌, ◌+ℤ◌, ◌≤ℤ◌, ◌∙◌, ℕ, ℤ, suc, pos, neg_ℤ, Bool, true, false, cond, List, [], ◌∷◌, length, All, arith, ap, sym, subst}
+use Rattle.std.proofs.Common.{◌<◌, ◌*◌, ◌+ℤ◌, ◌≤ℤ◌, ℕ, ℤ, suc, pos, neg_ℤ, Bool, true, false, cond, List, [], ◌∷◌, length, arith, subst}
 use Rattle.std.proofs.lemmas.Int.{ints}
 use Rattle.std.proofs.lemmas.List.Elements.{All-get_or, All-head, All-tail}
 use Rattle.mix_num.specs.Ranges.{AreWithin}

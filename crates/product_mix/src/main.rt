@@ -6,6 +6,8 @@ mod command;
 mod refusal;
 mod rows;
 #[cfg(test)]
+mod table_tests;
+#[cfg(test)]
 mod tests;
 mod utility;
 mod validity;

@@ -191,8 +191,7 @@ fn validities(rt: HostRuntime) -> Result<(), Fail> {
 // Whether X is refused for A and B at one price of both, at most `most`, with weight -1.
 fn refused_at_one_price(alloc: Global, output: &[u8], most: i64) -> Result<bool, Fail> {
     for price in -20..=most {
-        let text =
-            format!(in alloc; "outcome,1\nrefused,X,A,B,{price},{price},-1\nend\n")?;
+        let text = format!(in alloc; "outcome,1\nrefused,X,A,B,{price},{price},-1\nend\n")?;
         if text.as_bytes() == output {
             return Ok(true);
         }
@@ -220,8 +219,15 @@ fn refusals(rt: HostRuntime) -> Result<(), Fail> {
         assert_eq!(rt; answer, 1);
         assert!(rt; refused_at_one_price(alloc, sink.bytes(), most)?);
     }
-    let text = b"mix,1\ngoods,A,B,C\nsupply,1,1,1\nreserve,0,0,0\nbid,X,1,5,2,2\nbid,X,-1,5,2,8\nbid,X,-1,5,8,2\nbid,X,1,-,8,2\nbid,X,1,-,2,8\nbid,X,1,6,9,-\nbid,X,1,6,-,9\nend\n";
-    let (answer, sink) = call(alloc, &["validate"], text.to_vec(alloc)?, Vec::new(alloc), 64)?;
+    let text =
+        b"mix,1\ngoods,A,B,C\nsupply,1,1,1\nreserve,0,0,0\nbid,X,1,5,2,2\nbid,X,-1,5,2,8\nbid,X,-1,5,8,2\nbid,X,1,-,8,2\nbid,X,1,-,2,8\nbid,X,1,6,9,-\nbid,X,1,6,-,9\nend\n";
+    let (answer, sink) = call(
+        alloc,
+        &["validate"],
+        text.to_vec(alloc)?,
+        Vec::new(alloc),
+        64,
+    )?;
     assert_eq!(rt; answer, 1);
     assert!(rt; sink.bytes().starts_with(b"outcome,1\nrefused,X,-,A,5,"));
     assert!(rt; sink.bytes().ends_with(b",-1\nend\n"));

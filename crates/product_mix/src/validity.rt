@@ -1,5 +1,5 @@
 // The command `validate`: each bidder's total where every list is valid, else a refusal of the first bidder whose list isn't.
-ghost use Rattle.std.specs.Prelude.{◌≡◌, ◌≢◌, ◌<◌, ◌≤◌, ◌++◌, [], length, map, Ok, IfOk, IfErr, MatchOption, OnOk};
+ghost use Rattle.std.specs.Prelude.{◌≡◌, ◌<◌, ◌≤◌, ◌++◌, [], length, map, Ok, IfOk, IfErr, MatchOption, OnOk};
 ghost use Rattle.mix_text.specs.AuctionTexts.{auction_text};
 ghost use Rattle.mix_text.specs.Bidders.{list_at};
 ghost use Rattle.mix_text.specs.Pages.{printed};
