@@ -9,6 +9,7 @@ mod rows;
 pub use outcome::Outcome;
 pub use printing::print_outcome;
 pub use refusal::Refusal;
+pub use rows::add_numbers;
 
 #[cfg(test)]
 mod tests;

@@ -43,8 +43,8 @@ fn add_choice(page: &mut Page, auction: &Auction, choice: usize) -> Result<(), M
     add_name(page, auction.goods.get(choice - 1))
 }
 
-// Adds numbers to the open row.
-fn add_numbers(page: &mut Page, numbers: &[i64]) -> Result<(), Memory>
+/// Adds the spellings of numbers to the open row.
+pub fn add_numbers(page: &mut Page, numbers: &[i64]) -> Result<(), Memory>
     ensures { OnOk result (page.new ≡ record page.old { fields = page.old.fields ++ map signed_decimal numbers.now }) }
 {
     for number in numbers {

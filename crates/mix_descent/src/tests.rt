@@ -1,12 +1,13 @@
-// Climbs in markets whose members are sellers taken as members: each takes its supply at up to its reserves.
+// Climbs in markets of members that are no lists of bids: each takes the supply of a seller at up to its reserves.
 ghost use Rattle.std.specs.Prelude.{◌≡◌, ◌≤◌, [], ◌∷◌, length, pos, ◌≤ℤ◌, All, IfOk};
 ghost use Rattle.mix_num.specs.Ranges.{AreWithin};
 ghost use Rattle.mix_num.specs.Sellers.{AreAmounts, IsAmount};
 ghost use Rattle.mix_market.specs.Markets.{goods_of};
 
 use crate::descend;
+use mix_law::Convex;
 use mix_market::{Market, Seller};
-use mix_num::{Bundle, Prices};
+use mix_num::{Bundle, Prices, Set};
 use mix_step::Steps;
 use std::alloc::{AllocError, Global};
 use std::marker::Brand;
@@ -26,20 +27,72 @@ fn pair(first: i64, second: i64) -> Bundle
     both
 }
 
+/// A member of a type of these tests alone: whoever keeps the laws may climb.
+#[derive(Drop)]
+struct Taker<D: Convex> {
+    taken: D,
+}
+
+impl<D: Convex> Convex for Taker<D> {
+    ghost size = { λ taker. D.size taker.taken };
+
+    ghost weight = { λ taker. D.weight taker.taken };
+
+    ghost ceiling = { λ taker. D.ceiling taker.taken };
+
+    ghost function = { λ taker. D.function taker.taken };
+
+    ghost convex = { λ taker. D.convex taker.taken };
+
+    fn goods(&self) -> usize {
+        self.taken.goods()
+    }
+
+    fn total(&self) -> i64 {
+        self.taken.total()
+    }
+
+    fn top(&self, good: usize) -> i64 {
+        self.taken.top(good)
+    }
+
+    fn value(&self, prices: &Prices) -> i64 {
+        self.taken.value(prices)
+    }
+
+    fn fall(&self, prices: &Prices, set: Set) -> i64 {
+        self.taken.fall(prices, set)
+    }
+
+    fn gain_down(&self, prices: &Prices, set: Set) -> i64 {
+        self.taken.gain_down(prices, set)
+    }
+
+    fn reach(&self, prices: &Prices, set: Set) -> i64 {
+        self.taken.reach(prices, set)
+    }
+}
+
 /// Three units of the first good and one of the second for sale, and three members: two units of the first at up to 10 and
 /// one of the second at up to 4, two of the first at up to 7 and one of the second at up to 4, one of the first at up to 5.
-fn market(alloc: Global) -> Result<Market<Seller>, AllocError>
+fn market(alloc: Global) -> Result<Market<Taker<Seller>>, AllocError>
     ensures { IfOk result (λ market. goods_of market ≡ 2) }
 {
     let mut members = Vec::new(alloc);
-    members.push(Seller::new(&pair(2, 1), &pair(10, 4)))?;
-    members.push(Seller::new(&pair(2, 1), &pair(7, 4)))?;
-    members.push(Seller::new(&pair(1, 0), &pair(5, 0)))?;
+    members.push(Taker {
+        taken: Seller::new(&pair(2, 1), &pair(10, 4)),
+    })?;
+    members.push(Taker {
+        taken: Seller::new(&pair(2, 1), &pair(7, 4)),
+    })?;
+    members.push(Taker {
+        taken: Seller::new(&pair(1, 0), &pair(5, 0)),
+    })?;
     Ok(Market::new(members, Seller::new(&pair(3, 1), &pair(2, 0))))
 }
 
 /// The end of the climb from the start, on a ledger of its own.
-fn end_of<L: Ledger>(market: &Market<Seller>, start: &Prices, blank: Blank) -> Prices
+fn end_of<L: Ledger>(market: &Market<Taker<Seller>>, start: &Prices, blank: Blank) -> Prices
     requires start { AreWithin 1000000 (goods_of market.now) start.now.items }
     requires name { blank.name ≡ L.name }
     requires parts { blank.parts ≡ L.parts }

@@ -2,18 +2,14 @@
 use Rattle.std.proofs.Common.{◌≡◌, ◌≢◌, ◌<◌, ◌∙◌, sym, ap, inl, inr, arith, ℕ, List, [], ◌∷◌, Option, Some, None, refl, subst}
 use Rattle.std.specs.Prelude.{IfSome, codes}
 use Rattle.std.proofs.lemmas.Fmt.{decimal_digit}
-use Rattle.std.proofs.lemmas.Int.{ints}
-use Rattle.mix_num.specs.Vectors.{with_null}
-use Rattle.mix_text.specs.Bidders.{Named, list_at}
-use Rattle.mix_answer.specs.declared.refusal.Refusal.{Refusal}
 use Rattle.mix_text.specs.declared.faults.TextError.{TextError}
 use Rattle.mix_text.specs.declared.faults.TextError.TheVariants as error
 use Rattle.mix_io.specs.Given.{IsLonger}
+use Rattle.mix_solve.proofs.TrueRefusals.{refused_invalid}
 use Rattle.product_mix.specs.Outputs.{Output, one_row, refusal, too_long}
 use Rattle.product_mix.specs.Calls.{HasFault, HasInvalid, HasLimit, IsAnswered, IsDone, IsOutput, IsUnmet, IsWanted, IsWrong, IsWritten}
 use Rattle.product_mix.specs.declared.words.Command.{Command}
-use Rattle.product_mix.specs.declared.words.Command.TheVariants.{Utility, Validate}
-use Rattle.product_mix.specs.Validities.{IsTrueRefusal, IsValid}
+use Rattle.product_mix.specs.declared.words.Command.TheVariants.{Prices, Utility, Validate}
 
 status_of : (a b : Output) → a ≡ b → a.status ≡ b.status
 status_of a b e = ap (λ (o : Output). o.status) e
@@ -24,19 +20,20 @@ done_status Validate text output done = elim done.2 [
   | inl valid ↦ omega (arith, status_of _ _ valid.1)
   | inr refused ↦ omega (arith, status_of _ _ refused.2)
 ]
-
--- the list of a bidder that is truly refused isn't valid
-refused_invalid : (bidders : Named) (r : Refusal) → IsTrueRefusal bidders r → ¬ IsValid (list_at bidders r.bidder)
-refused_invalid bidders r refused valid =
-    let facet = refused.facet in
-    let none = valid r.first r.second (omega (arith, facet.order, facet.within)) facet.within (λ same. omega (arith, same, facet.order)) (with_null r.prices.items) in
-    omega (arith, ints, none, facet.weight, facet.negative)
+done_status Prices text output done = elim done.2 [
+  | inl priced ↦ omega (arith, status_of _ _ priced.3)
+  | inr refused ↦ omega (arith, status_of _ _ refused.2)
+]
 
 -- an output with status 1 that is wanted of a text shows a list that isn't valid
 invalid_done : (command : Command) (text : List ℕ) (output : Output) → IsDone command text output → output.status ≡ 1 → IsUnmet command text
 invalid_done Utility text output done s = absurd (omega (arith, s, status_of _ _ done.2))
 invalid_done Validate text output done s = elim done.2 [
   | inl valid ↦ absurd (omega (arith, s, status_of _ _ valid.1))
+  | inr refused ↦ (done.0, done.1, refused.0.bidder, refused.1.bidder, refused_invalid done.0.bidders refused.0 refused.1)
+]
+invalid_done Prices text output done s = elim done.2 [
+  | inl priced ↦ absurd (omega (arith, s, status_of _ _ priced.3))
   | inr refused ↦ (done.0, done.1, refused.0.bidder, refused.1.bidder, refused_invalid done.0.bidders refused.0 refused.1)
 ]
 

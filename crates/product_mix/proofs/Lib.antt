@@ -4,4 +4,3 @@ mod PrintedRows
 mod ReadPrices
 mod SoundBidders
 mod Taken
-mod TrueRefusals

@@ -7,21 +7,25 @@ use Rattle.mix_text.specs.declared.faults.Limit.{Limit}
 use Rattle.mix_text.specs.declared.faults.TextError.{TextError}
 use Rattle.mix_text.specs.declared.faults.TextError.TheVariants as error
 use Rattle.product_mix.specs.Outputs.{Output, most_bytes, refusal, too_long, unknown_words, unread}
+use Rattle.product_mix.specs.Pricings.{IsPricingOf}
 use Rattle.product_mix.specs.Readings.{auction_alone}
+use Rattle.product_mix.specs.Refusals.{IsInvalid}
 use Rattle.product_mix.specs.Utilities.{utility_text}
-use Rattle.product_mix.specs.Validities.{IsInvalid, IsValidityOf}
+use Rattle.product_mix.specs.Validities.{IsValidityOf}
 use Rattle.product_mix.specs.declared.words.Command.{Command}
-use Rattle.product_mix.specs.declared.words.Command.TheVariants.{Utility, Validate}
+use Rattle.product_mix.specs.declared.words.Command.TheVariants.{Prices, Utility, Validate}
 
 -- a text isn't as the command wants it, and this is wrong first
 abbrev pub IsWrong : Command → List ℕ → TextError → Type 0
 IsWrong Utility text e = utility_text text ≡ Err e
 IsWrong Validate text e = auction_alone text ≡ Err e
+IsWrong Prices text e = auction_alone text ≡ Err e
 
 -- a text is as the command wants it, and this comes of it
 abbrev pub IsDone : Command → List ℕ → Output → Type 0
 IsDone Utility text output = (bytes : List ℕ) × (utility_text text ≡ Ok bytes) × (output ≡ record { status = 0; bytes = bytes })
 IsDone Validate text output = IsValidityOf text output
+IsDone Prices text output = IsPricingOf text output
 
 -- a text is refused, and this comes of it: what is wrong first, whatever the command
 abbrev pub IsRefused : Command → List ℕ → Output → Type 0
@@ -65,6 +69,7 @@ HasLimit command text = IsSomeAnd command (λ c. IfSome text (λ bytes. (most_by
 abbrev pub IsUnmet : Command → List ℕ → Type 0
 IsUnmet Utility text = ⊥
 IsUnmet Validate text = IsInvalid text
+IsUnmet Prices text = IsInvalid text
 
 -- the words call a command that needs valid lists, and in the text, where it is told, some bidder's list isn't valid
 abbrev pub HasInvalid : Option Command → Option (List ℕ) → Type 0

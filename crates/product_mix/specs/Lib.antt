@@ -3,5 +3,7 @@ pub mod Outputs
 pub mod Answers
 pub mod Readings
 pub mod Utilities
+pub mod Refusals
 pub mod Validities
+pub mod Pricings
 pub mod Calls

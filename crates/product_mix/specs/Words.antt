@@ -6,7 +6,7 @@ use Rattle.mix_text.specs.declared.faults.Code.TheVariants as code
 use Rattle.mix_text.specs.declared.faults.What.{What}
 use Rattle.mix_text.specs.declared.faults.What.TheVariants as what
 use Rattle.product_mix.specs.declared.words.Command.{Command}
-use Rattle.product_mix.specs.declared.words.Command.TheVariants.{Utility, Validate}
+use Rattle.product_mix.specs.declared.words.Command.TheVariants.{Prices, Utility, Validate}
 
 -- whether a word is the only one
 abbrev pub are_alone : List (List ℕ) → List ℕ → Bool
@@ -17,6 +17,7 @@ abbrev pub command_of : List (List ℕ) → Option Command
 command_of words =
     if are_alone words (codes "utility") then Some Utility
     else if are_alone words (codes "validate") then Some Validate
+    else if are_alone words (codes "prices") then Some Prices
     else None
 
 -- the word for what is wrong with a row

@@ -9,6 +9,7 @@ ghost use Rattle.product_mix.specs.Calls.{HasFault, HasInvalid, HasLimit, IsAnsw
 ghost use Rattle.product_mix.specs.Words.{command_of};
 
 use crate::answer::Answer;
+use crate::prices::print_prices;
 use crate::refusal::refused;
 use crate::utility::print_utilities;
 use crate::validity::print_validity;
@@ -61,6 +62,7 @@ fn done(alloc: Global, command: Command, text: &[u8]) -> Result<Answer, TextErro
             })
         }
         Command::Validate => print_validity(alloc, text),
+        Command::Prices => print_prices(alloc, text),
     }
 }
 

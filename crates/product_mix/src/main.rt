@@ -1,8 +1,10 @@
 //! A product-mix auction: does the command of its words on the auction of standard input.
 #![tactic(auto)]
 
+mod alone;
 mod answer;
 mod command;
+mod prices;
 mod refusal;
 mod rows;
 #[cfg(test)]

@@ -1,14 +1,21 @@
-// The answer to a text that is refused.
+// The answers to a text that is refused, and to an auction with a bidder who is.
 ghost use Rattle.std.specs.Prelude.{◌≡◌, ◌≢◌, ◌<◌, IfOk};
+ghost use Rattle.mix_text.specs.AuctionTexts.{auction_text};
 ghost use Rattle.mix_text.specs.Pages.{line_of};
+ghost use Rattle.mix_answer.specs.Shapes.{FitsAuction};
+ghost use Rattle.mix_solve.specs.Refusals.{IsTrueRefusal};
 ghost use Rattle.product_mix.specs.Answers.{output_of};
 ghost use Rattle.product_mix.specs.Outputs.{fault_row, limit_row, refusal};
+ghost use Rattle.product_mix.specs.Refusals.{IsRefusal};
 
 use crate::answer::Answer;
 use crate::rows::{add_fault, add_limit};
+use mix_answer::{Outcome, Refusal, print_outcome};
 use mix_num::Memory;
-use mix_text::{Fault, Limit, Page, TextError};
+use mix_text::{Auction, Fault, Limit, Page, TextError};
 use std::alloc::Global;
+
+const INVALID: u8 = 1;
 
 const FAULT: u8 = 3;
 
@@ -55,4 +62,18 @@ pub fn refused(alloc: Global, error: TextError) -> Result<Answer, Memory>
         }
         TextError::Memory => Err(Memory),
     }
+}
+
+/// The answer to an auction with this refusal of a bidder, whose list isn't valid: status 1 and the outcome's text.
+pub fn refused_bidder(alloc: Global, auction: &Auction, refusal: Refusal) -> Result<Answer, Memory>
+    requires truth { IsTrueRefusal auction.now.bidders refusal }
+    requires shape { FitsAuction (auction_text auction.now) refusal }
+    ensures answer { IfOk result (λ answer. IsRefusal (auction_text auction.now) (output_of answer)) }
+    ensures status { IfOk result (λ answer. answer.status ≡ 1) }
+{
+    let bytes = print_outcome(alloc, auction, &Outcome::Refused(refusal))?;
+    Ok(Answer {
+        status: INVALID,
+        bytes,
+    })
 }

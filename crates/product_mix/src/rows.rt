@@ -4,11 +4,13 @@ ghost use Rattle.mix_num.specs.Ranges.{ArePrices};
 ghost use Rattle.mix_text.specs.Bidders.{bidder_at, name_at};
 ghost use Rattle.mix_text.specs.Pages.{line_of};
 ghost use Rattle.product_mix.specs.Outputs.{fault_row, limit_row};
+ghost use Rattle.product_mix.specs.Pricings.{price_row};
 ghost use Rattle.product_mix.specs.Utilities.{utility_row};
 ghost use Rattle.product_mix.specs.Validities.{valid_row};
 
 use crate::words::{word_of_code, word_of_limit};
 use itoa::Buffer;
+use mix_answer::add_numbers;
 use mix_num::{Memory, Prices};
 use mix_text::{Auction, Fault, Limit, Page};
 
@@ -85,6 +87,16 @@ pub fn add_valid(page: &mut Page, auction: &Auction, k: usize) -> Result<(), Mem
     page.text(b"valid")?;
     add_name(page, auction, k)?;
     page.number(total)?;
+    page.end_row()
+}
+
+/// Adds the row of the prices.
+pub fn add_prices(page: &mut Page, prices: &Prices) -> Result<(), Memory>
+    requires { page.old.fields ≡ [] }
+    ensures { OnOk result (page.new ≡ record { ended = page.old.ended ++ line_of (price_row prices.now.items); fields = [] }) }
+{
+    page.text(b"price")?;
+    add_numbers(page, prices)?;
     page.end_row()
 }
 

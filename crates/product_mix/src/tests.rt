@@ -199,6 +199,19 @@ fn refused_at_one_price(alloc: Global, output: &[u8], most: i64) -> Result<bool,
     Ok(false)
 }
 
+// Whether the command refuses X so, of these bids for two goods.
+fn is_refused(
+    alloc: Global,
+    word: &str,
+    bids: &[u8],
+    tail: &[u8],
+    most: i64,
+) -> Result<bool, Fail> {
+    let text = text_of(alloc, TWO_GOODS, bids, 1, tail)?;
+    let (answer, sink) = call(alloc, &[word], text, Vec::new(alloc), 64)?;
+    Ok(answer == 1 && refused_at_one_price(alloc, sink.bytes(), most)?)
+}
+
 // Which facet is told is free: those of the first three texts have A and B at one price each, of at most 5 or -1; those
 // of the last have nothing and A at a price of 5 for A, and at least 9 for the other two.
 #[test]
@@ -214,10 +227,8 @@ fn refusals(rt: HostRuntime) -> Result<(), Fail> {
         ),
     ];
     for (bids, tail, most) in cases {
-        let text = text_of(alloc, TWO_GOODS, bids, 1, tail)?;
-        let (answer, sink) = call(alloc, &["validate"], text, Vec::new(alloc), 64)?;
-        assert_eq!(rt; answer, 1);
-        assert!(rt; refused_at_one_price(alloc, sink.bytes(), most)?);
+        assert!(rt; is_refused(alloc, "validate", bids, tail, most)?);
+        assert!(rt; is_refused(alloc, "prices", bids, tail, most)?);
     }
     let text =
         b"mix,1\ngoods,A,B,C\nsupply,1,1,1\nreserve,0,0,0\nbid,X,1,5,2,2\nbid,X,-1,5,2,8\nbid,X,-1,5,8,2\nbid,X,1,-,8,2\nbid,X,1,-,2,8\nbid,X,1,6,9,-\nbid,X,1,6,-,9\nend\n";
@@ -231,5 +242,55 @@ fn refusals(rt: HostRuntime) -> Result<(), Fail> {
     assert_eq!(rt; answer, 1);
     assert!(rt; sink.bytes().starts_with(b"outcome,1\nrefused,X,-,A,5,"));
     assert!(rt; sink.bytes().ends_with(b",-1\nend\n"));
+    Ok(())
+}
+
+#[test]
+fn least_prices(rt: HostRuntime) -> Result<(), Fail> {
+    let alloc = rt.alloc();
+    let cases: [(&[u8], &[u8], &[u8]); 8] = [
+        (
+            b"mix,1\ngoods,A\nsupply,3\nreserve,2\n",
+            b"bid,P,2,10\nbid,Q,2,7\nbid,S,1,5\nend\n",
+            b"price,7\nend\n",
+        ),
+        (
+            b"mix,1\ngoods,A\nsupply,4\nreserve,9\n",
+            b"end\n",
+            b"price,9\nend\n",
+        ),
+        (
+            b"mix,1\ngoods,A\nsupply,0\nreserve,0\n",
+            b"bid,P,1,5\nend\n",
+            b"price,5\nend\n",
+        ),
+        (
+            b"mix,1\ngoods,A\nsupply,2\nreserve,50\n",
+            b"bid,P,1,10\nend\n",
+            b"price,50\nend\n",
+        ),
+        (
+            TWO_GOODS,
+            b"bid,P,1,5,5\nbid,Q,1,5,5\nend\n",
+            b"price,0,0\nend\n",
+        ),
+        (
+            TWO_GOODS,
+            b"bid,P,1,6,4\nbid,Q,1,6,4\nend\n",
+            b"price,2,0\nend\n",
+        ),
+        (AUCTION, b"", b"price,4,0\nend\n"),
+        (
+            b"mix,1\ngoods,weak,strong\nsupply,30,20\nreserve,10,15\n",
+            b"bid,alpha,10,40,50\nbid,alpha,10,25,30\nbid,beta,15,35,-\nbid,gamma,8,-,60\nbid,gamma,12,20,45\nend\n",
+            b"price,25,35\nend\n",
+        ),
+    ];
+    for (front, bids, output) in cases {
+        let text = text_of(alloc, front, bids, 1, b"")?;
+        let (answer, sink) = call(alloc, &["prices"], text, Vec::new(alloc), 64)?;
+        assert_eq!(rt; answer, 0);
+        assert_eq!(rt; sink.bytes(), output);
+    }
     Ok(())
 }

@@ -13,6 +13,8 @@ pub enum Command {
     Utility,
     /// Print each bidder's total, where every list of bids is valid.
     Validate,
+    /// Print the least prices, where every list of bids is valid.
+    Prices,
 }
 
 impl Command {
@@ -24,6 +26,8 @@ impl Command {
             Some(Command::Utility)
         } else if is_alone(words, "validate") {
             Some(Command::Validate)
+        } else if is_alone(words, "prices") {
+            Some(Command::Prices)
         } else {
             None
         }

@@ -1,0 +1,3 @@
+pub mod AuctionPrices
+mod ListsInOrder
+pub mod TrueRefusals

@@ -1,0 +1,28 @@
+-- What the command `prices` gives.
+use Rattle.std.specs.Prelude.{◌≡◌, ◌⊎◌, ℕ, ℤ, List, [], ◌∷◌, ◌++◌, map, Ok, codes}
+use Rattle.std.specs.Fmt.{signed_decimal}
+use Rattle.mix_text.specs.Auctions.{AuctionText}
+use Rattle.mix_text.specs.Pages.{line_of}
+use Rattle.mix_solve.specs.LeastPrices.{AreLeastPrices}
+use Rattle.mix_solve.specs.Refusals.{AreValid}
+use Rattle.product_mix.specs.Outputs.{Output}
+use Rattle.product_mix.specs.Readings.{auction_alone}
+use Rattle.product_mix.specs.Refusals.{IsRefusal}
+
+-- the row of the prices, one for each good
+abbrev pub price_row : List ℤ → List (List ℕ)
+price_row prices = codes "price" ∷ map signed_decimal prices
+
+-- this row, and `end`
+abbrev pub prices_page : List ℤ → List ℕ
+prices_page prices = line_of (price_row prices) ++ line_of (codes "end" ∷ [])
+
+-- the output of `prices` for an auction: its least prices where each list is valid, else a refusal
+abbrev pub IsPricing : AuctionText → Output → Type 0
+IsPricing a output =
+    ((prices : List ℤ) × AreValid a.bidders × AreLeastPrices a prices × (output ≡ record { status = 0; bytes = prices_page prices }))
+    ⊎ IsRefusal a output
+
+-- the output of `prices` for a text of an auction alone
+abbrev pub IsPricingOf : List ℕ → Output → Type 0
+IsPricingOf text output = (a : AuctionText) × (auction_alone text ≡ Ok a) × IsPricing a output

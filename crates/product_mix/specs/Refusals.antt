@@ -1,0 +1,18 @@
+-- The output for an auction that is refused, and the texts of such auctions.
+use Rattle.std.specs.Prelude.{◌≡◌, ◌<◌, ℕ, List, length, Ok}
+use Rattle.mix_text.specs.Auctions.{AuctionText}
+use Rattle.mix_text.specs.Bidders.{list_at}
+use Rattle.mix_answer.specs.Outcomes.{outcome_text}
+use Rattle.mix_answer.specs.declared.outcome.Outcome.TheVariants.{Refused}
+use Rattle.mix_answer.specs.declared.refusal.Refusal.{Refusal}
+use Rattle.mix_solve.specs.Refusals.{IsTrueRefusal, IsValid}
+use Rattle.product_mix.specs.Outputs.{Output}
+use Rattle.product_mix.specs.Readings.{auction_alone}
+
+-- an auction is refused, and its output is the text of a true refusal, whichever facet it tells of
+abbrev pub IsRefusal : AuctionText → Output → Type 0
+IsRefusal a output = (r : Refusal) × IsTrueRefusal a.bidders r × (output ≡ record { status = 1; bytes = outcome_text a (Refused r) })
+
+-- a text of an auction alone, of which some bidder's list isn't valid
+abbrev pub IsInvalid : List ℕ → Type 0
+IsInvalid text = (a : AuctionText) × (auction_alone text ≡ Ok a) × (k : ℕ) × (k < length a.bidders) × ¬ IsValid (list_at a.bidders k)
