@@ -1,7 +1,7 @@
 // Why an auction is refused.
 use mix_num::Prices;
 
-/// A facet of negative weight in the list of a bidder, which so stands for no demand.
+/// A facet of negative weight in the list of a bidder, which so isn't convex and stands for no demand.
 #[derive(Drop)]
 pub struct Refusal {
     /// The place of the bidder, from 0.

@@ -6,8 +6,10 @@ pub mod Cases
 pub mod Falls
 pub mod Far
 pub mod Gains
+pub mod HalfSteps
 pub mod Lengths
 pub mod Locals
+pub mod Multiples
 pub mod Near
 pub mod Pairs
 pub mod Products

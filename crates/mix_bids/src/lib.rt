@@ -6,6 +6,7 @@ mod bid;
 mod choices;
 mod gain;
 mod list;
+mod scales;
 mod sums;
 #[cfg(test)]
 mod tests;
@@ -13,3 +14,4 @@ mod tests;
 pub use best::best_set;
 pub use bid::{Bid, Values};
 pub use list::BidList;
+pub use scales::utility_at_scales;

@@ -1,5 +1,5 @@
 -- A vector in the middle between two others has at most half of their sum; so the slope along a set never falls.
-use Rattle.std.proofs.Common.{◌≡◌, ℕ, zero, suc, ◌+◌, ◌≤◌, ◌↔◌, Bool, true, false, cond, ℤ, pos, neg_ℤ, ◌+ℤ◌, ◌-ℤ◌, ◌≤ℤ◌, refl, arith, ap, IsTrue, int_eq}
+use Rattle.std.proofs.Common.{◌≡◌, ℕ, zero, suc, ◌+◌, ◌≤◌, ◌↔◌, Bool, true, false, cond, ℤ, pos, neg_ℤ, ◌+ℤ◌, ◌-ℤ◌, ◌*ℤ◌, ◌≤ℤ◌, refl, arith, ap, IsTrue, int_eq}
 use Rattle.std.proofs.lemmas.Int.{ints}
 use Rattle.std.proofs.lemmas.Bool.{false≢true}
 use Rattle.mix_num.specs.Vectors.{Vector, Choices, bit, plus, minus, ray}
@@ -75,6 +75,16 @@ module _ {n : ℕ} {f : Vector → ℤ} {w : ℤ} (v : KeepsLocal n f w) where
       let p = bound c (suc n) in
       let q = bound (opposite c) (suc n) in
       middle_from z q.0 p.0 c (λ k i. p.1 k (omega arith)) (λ k i. q.1 k (omega arith))
+
+  -- the same with the sum of two vectors in the middle, between their doubles
+  pub middle_of_doubles : (x y : Vector) → (f (λ k. x k +ℤ y k) +ℤ f (λ k. x k +ℤ y k)) ≤ℤ (f (λ k. pos 2 *ℤ x k) +ℤ f (λ k. pos 2 *ℤ y k))
+  middle_of_doubles x y =
+      let z : Vector = λ k. x k +ℤ y k in
+      let c : Vector = λ k. x k -ℤ y k in
+      let m = middle z c in
+      let p = v.reads (up_by z c) (λ k. pos 2 *ℤ x k) (λ k l. omega (arith, ints)) in
+      let q = v.reads (down_by z c) (λ k. pos 2 *ℤ y k) (λ k l. omega (arith, ints)) in
+      omega (arith, ints)
 
 ray_up : (a : ℤ) (k : ℕ) (s : Bool) → (a +ℤ cond s (pos (suc k)) (pos 0)) +ℤ bit s ≡ a +ℤ cond s (pos (suc (suc k))) (pos 0)
 ray_up a k true = omega (arith, ints)

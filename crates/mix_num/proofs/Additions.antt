@@ -1,11 +1,10 @@
 -- Sums over goods and over sets: one entry more at the end, one entry less at the front, and how far they lie from 0.
-use Rattle.std.proofs.Common.{◌≡◌, ℕ, zero, suc, ◌+◌, ◌-◌, ◌*◌, ◌^◌, ◌/◌, ◌%◌, ◌≤◌, ◌<◌, Bool, true, false, cond, ◌==◌, eqb, List, [], ◌∷◌, ℤ, pos, negsuc, neg_ℤ, ◌+ℤ◌, ◌-ℤ◌, ◌*ℤ◌, ◌≤ℤ◌, length, get_or, All, refl, sym, ap, ap₂, ◌∙◌, arith, add-one, ◌≢◌, ⊎_elim, eq-or-lt_of_le}
+use Rattle.std.proofs.Common.{◌≡◌, ℕ, zero, suc, ◌+◌, ◌-◌, ◌*◌, ◌^◌, ◌/◌, ◌%◌, ◌≤◌, ◌<◌, Bool, true, false, cond, eqb, List, [], ◌∷◌, ℤ, pos, negsuc, ◌+ℤ◌, ◌-ℤ◌, ◌*ℤ◌, ◌≤ℤ◌, length, get_or, refl, sym, ap, ap₂, ◌∙◌, arith, add-one, ◌≢◌, ⊎_elim, eq-or-lt_of_le}
 use Rattle.std.proofs.lemmas.Int.{ints, unsigned_abs-mul}
 use Rattle.std.proofs.Math.Nat.{mul-le-mul}
 use Rattle.std.specs.Int.RustNames.{unsigned_abs}
-use Rattle.std.specs.Int.{bit_at}
 use Rattle.std.proofs.lemmas.Nat.Bits.{bit_at-suc, bit_at_lowest}
-use Rattle.mix_num.specs.Vectors.{Vector, Choices, sum_to, dot_to, members}
+use Rattle.mix_num.specs.Vectors.{Vector, sum_to, dot_to, members}
 use Rattle.mix_num.specs.Ranges.{Lies}
 use Rattle.mix_num.proofs.Masks.{goods_members}
 use Rattle.mix_num.specs.Sums.{entries, total, sum_in, dot_of}

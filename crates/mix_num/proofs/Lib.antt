@@ -1,4 +1,5 @@
 pub mod Products
+pub mod Quotients
 pub mod Masks
 pub mod UnitMoves
 pub mod Additions

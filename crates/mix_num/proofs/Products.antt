@@ -1,7 +1,7 @@
 -- Products of whole numbers: over sums and differences, and by a factor that isn't negative.
-use Rattle.std.proofs.Common.{◌≡◌, ◌+◌, ◌*◌, ℤ, pos, negsuc, ◌+ℤ◌, ◌-ℤ◌, ◌*ℤ◌, ◌≤ℤ◌, arith, ap}
+use Rattle.std.proofs.Common.{◌≡◌, ◌∙◌, ℕ, zero, suc, ◌+◌, ◌*◌, ℤ, pos, negsuc, ◌+ℤ◌, ◌-ℤ◌, ◌*ℤ◌, ◌≤ℤ◌, arith, ap, sym}
 use Rattle.std.proofs.lemmas.Int.{ints}
-use Rattle.std.proofs.Math.IntN.{*ℤ_comm, pos-*ℤ-pos}
+use Rattle.std.proofs.Math.IntN.{*ℤ_comm, pos-*ℤ-pos, zero-*ℤ}
 use borrow.Author.Differences.{up, down, sum_is_lem}
 
 pub *ℤ-sum : (a b c : ℤ) → a *ℤ (b +ℤ c) ≡ (a *ℤ b) +ℤ (a *ℤ c)
@@ -34,3 +34,18 @@ pub product_grows_left : (a b c : ℤ) → pos 0 ≤ℤ c → a ≤ℤ b → (a 
 product_grows_left a b c h k =
     let p = product_grows c a b h k in
     omega (arith, ints, *ℤ_comm c a, *ℤ_comm c b)
+
+-- a natural factor moves out of a product
+pub *ℤ-multiple : (a : ℤ) (d : ℕ) (b : ℤ) → a *ℤ (pos d *ℤ b) ≡ pos d *ℤ (a *ℤ b)
+*ℤ-multiple a zero b = omega (arith, ints, zero-*ℤ b, zero-*ℤ (a *ℤ b), ap (λ z. a *ℤ z) (zero-*ℤ b))
+*ℤ-multiple a (suc d) b =
+    let one : pos (suc d) ≡ pos d +ℤ pos 1 = omega (arith, ints) in
+    let left = ap (λ z. a *ℤ (z *ℤ b)) one ∙ ap (λ z. a *ℤ z) (sum-*ℤ (pos d) (pos 1) b) ∙ *ℤ-sum a (pos d *ℤ b) (pos 1 *ℤ b) in
+    let right = ap (λ z. z *ℤ (a *ℤ b)) one ∙ sum-*ℤ (pos d) (pos 1) (a *ℤ b) in
+    let once : pos 1 *ℤ b ≡ b = omega (arith, ints) in
+    let last = ap (λ z. a *ℤ z) once in
+    omega (arith, ints, *ℤ-multiple a d b)
+
+-- a multiple of a multiple
+pub multiple-multiple : (e d : ℕ) (a : ℤ) → pos (e * d) *ℤ a ≡ pos e *ℤ (pos d *ℤ a)
+multiple-multiple e d a = ap (λ z. z *ℤ a) (sym (pos-*ℤ-pos e d)) ∙ *ℤ_comm (pos e *ℤ pos d) a ∙ *ℤ-multiple a e (pos d) ∙ ap (λ z. pos e *ℤ z) (*ℤ_comm a (pos d))

@@ -1,5 +1,5 @@
 -- Moves by one unit are the vectors raised and lowered along a set.
-use Rattle.std.proofs.Common.{◌≡◌, ℤ, pos, refl}
+use Rattle.std.proofs.Common.{◌≡◌, pos, refl}
 use Rattle.mix_num.specs.Vectors.{Vector, Choices, plus, minus}
 use Rattle.mix_num.specs.Moves.{raised, lowered}
 

@@ -5,13 +5,14 @@ use Rattle.std.proofs.Math.Seq.{drop-cons}
 use Rattle.std.proofs.lemmas.List.{length-map, map-append}
 use Rattle.std.proofs.lemmas.List.Elements.{All-get_or, All-map}
 use Rattle.mix_bids.specs.Bids.{Book}
+use Rattle.mix_bids.specs.Convexity.{IsConvexList}
 use Rattle.mix_validity.specs.Refusals.{IsNegativeFacet}
 use Rattle.mix_validity.specs.ValidLists.{book_of}
 use Rattle.mix_validity.specs.declared.valid_list.ValidList.{ValidList}
 use Rattle.mix_text.specs.Auctions.{AuctionText, IsAuction, IsBook}
 use Rattle.mix_text.specs.Bidders.{Named, list_at}
 use Rattle.mix_solve.specs.Admissions.{IsRefusedAt, IsRefusedFirst, books_of}
-use Rattle.mix_solve.specs.Refusals.{AreValidBefore, facet_of}
+use Rattle.mix_solve.specs.Refusals.{AreConvexBefore, facet_of}
 use Rattle.mix_solve.specs.declared.admission.Stopped.{Stopped}
 use Rattle.mix_solve.specs.declared.admission.Stopped.TheVariants.{Memory, Refused}
 
@@ -31,14 +32,15 @@ one_more bidders k lists now list h same added so_far =
     nobody : List ℕ × Book
     nobody = ([], record { goods = 0; bids = [] })
 
--- a bidder is refused, where each bidder before it has a valid list
-pub refused_first : (bidders : Named) (k : ℕ) (stopped : Stopped) → k < length bidders → AreValidBefore bidders k → IsRefusedAt bidders k stopped → IsRefusedFirst bidders stopped
-refused_first bidders k (Refused r) h valid at = record {
+-- a bidder is refused, where each bidder before it has a convex list
+pub refused_first : (bidders : Named) (k : ℕ) (stopped : Stopped) → k < length bidders → AreConvexBefore bidders k → IsRefusedAt bidders k stopped → IsRefusedFirst bidders stopped
+refused_first bidders k (Refused r) h convex at = record {
   bidder = subst (λ (j : ℕ). j < length bidders) (sym at.0) h;
-  first = subst (AreValidBefore bidders) (sym at.0) valid;
-  facet = subst (λ (j : ℕ). IsNegativeFacet (list_at bidders j) (facet_of r)) (sym at.0) at.1;
+  first = subst (AreConvexBefore bidders) (sym at.0) convex;
+  refused = subst (λ (j : ℕ). ¬ IsConvexList (list_at bidders j).bids) (sym at.0) at.1;
+  facet = subst (λ (j : ℕ). IsNegativeFacet (list_at bidders j) (facet_of r)) (sym at.0) at.2;
 }
-refused_first bidders k Memory h valid at = tt
+refused_first bidders k Memory h convex at = tt
 
 -- the lists of all bidders are over the goods of the auction
 pub same_goods : (a : AuctionText) (lists : List ValidList) → IsAuction a → map book_of lists ≡ books_of a.bidders → (k : ℕ) (none : ValidList) → k < length lists → (book_of (get_or lists k none)).goods ≡ length a.goods

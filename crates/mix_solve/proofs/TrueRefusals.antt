@@ -1,4 +1,4 @@
--- A true refusal of an auction has the shape of the auction, and the list that it tells of isn't valid.
+-- A true refusal of an auction has the shape of the auction.
 use Rattle.std.proofs.Common.{◌<◌, ◌*◌, ◌+ℤ◌, ◌≤ℤ◌, ℕ, ℤ, suc, pos, neg_ℤ, Bool, true, false, cond, List, [], ◌∷◌, length, arith, subst}
 use Rattle.std.proofs.lemmas.Int.{ints}
 use Rattle.std.proofs.lemmas.List.Elements.{All-get_or, All-head, All-tail}
@@ -8,10 +8,10 @@ use Rattle.mix_bids.specs.Bids.{AreBids, Book, IsBid, weight_where}
 use Rattle.mix_bids.specs.Offers.{best, pair, same_set}
 use Rattle.mix_bids.specs.declared.bid.Bid.{Bid}
 use Rattle.mix_text.specs.Auctions.{AuctionText, IsAuction, IsBook}
-use Rattle.mix_text.specs.Bidders.{Named, list_at}
+use Rattle.mix_text.specs.Bidders.{list_at}
 use Rattle.mix_answer.specs.Shapes.{FitsAuction}
 use Rattle.mix_answer.specs.declared.refusal.Refusal.{Refusal}
-use Rattle.mix_solve.specs.Refusals.{IsTrueRefusal, IsValid}
+use Rattle.mix_solve.specs.Refusals.{IsTrueRefusal}
 
 -- the list of the bidder at a place is over the goods of the auction
 list_at_ok : (a : AuctionText) (k : ℕ) → IsAuction a → k < length a.bidders → IsBook (length a.goods) (list_at a.bidders k)
@@ -52,10 +52,3 @@ fits a r sound refused =
       least = omega (arith, ints, few, weight, least);
       negative = omega (arith, ints, negative);
     }
-
--- the list of a bidder that is truly refused isn't valid
-pub refused_invalid : (bidders : Named) (r : Refusal) → IsTrueRefusal bidders r → ¬ IsValid (list_at bidders r.bidder)
-refused_invalid bidders r refused valid =
-    let facet = refused.facet in
-    let none = valid r.first r.second (omega (arith, facet.order, facet.within)) facet.within (λ same. omega (arith, same, facet.order)) (with_null r.prices.items) in
-    omega (arith, ints, none, facet.weight, facet.negative)

@@ -1,10 +1,11 @@
-// Whether the bidders of an auction can be taken in: each list must be valid.
+// Whether the bidders of an auction can be taken in: each list must be convex.
 ghost use Rattle.std.specs.Prelude.{◌≡◌, ◌<◌, length, map, IfErr, IfOk};
+ghost use Rattle.mix_bids.specs.Convexity.{IsConvexList};
 ghost use Rattle.mix_text.specs.AuctionTexts.{auction_text};
 ghost use Rattle.mix_text.specs.Bidders.{list_at};
 ghost use Rattle.mix_validity.specs.ValidLists.{book_of};
 ghost use Rattle.mix_solve.specs.Admissions.{IsAdmitted, IsRefusedAt, IsRefusedFirst, books_of};
-ghost use Rattle.mix_solve.specs.Refusals.{AreValid, IsValid};
+ghost use Rattle.mix_solve.specs.Refusals.{AreConvex};
 
 use mix_answer::Refusal;
 use mix_market::Market;
@@ -17,7 +18,7 @@ use std::alloc::Global;
 /// What comes of taking in the bidders of an auction.
 #[derive(Drop)]
 pub enum Admitted {
-    /// A bidder's list isn't valid.
+    /// A bidder's list isn't convex.
     Refused(Refusal),
     /// All bidders in order, and the seller.
     Market(Market<ValidList>),
@@ -30,8 +31,8 @@ enum Stopped {
     Memory,
 }
 
-/// The market of all bidders of an auction in order and of its seller, where each bidder's list is valid; else a refusal
-/// of the first bidder whose list isn't, with a facet of it that has negative weight.
+/// The market of all bidders of an auction in order and of its seller, where each bidder's list is convex over all rational
+/// prices; else a refusal of the first bidder whose list isn't, with a facet of it that has negative weight.
 ///
 /// `Memory` comes where memory is wanting.
 pub fn admit(alloc: Global, auction: &Auction) -> Result<Admitted, Memory>
@@ -47,11 +48,11 @@ pub fn admit(alloc: Global, auction: &Auction) -> Result<Admitted, Memory>
     }
 }
 
-// The lists of all bidders in order, or a refusal of the first bidder whose list isn't valid.
+// The lists of all bidders in order, or a refusal of the first bidder whose list isn't convex.
 #[tactic(auto, using(crate::proofs::ListsInOrder::one_more, crate::proofs::ListsInOrder::refused_first))]
 fn valid_lists(alloc: Global, auction: &Auction) -> Result<Vec<ValidList>, Stopped>
     ensures lists { IfOk result (λ lists. map book_of lists.items ≡ books_of auction.now.bidders) }
-    ensures valid { IfOk result (λ lists. AreValid auction.now.bidders) }
+    ensures convex { IfOk result (λ lists. AreConvex auction.now.bidders) }
     ensures refused { IfErr result (IsRefusedFirst auction.now.bidders) }
 {
     let mut lists = Vec::new(alloc);
@@ -68,7 +69,7 @@ fn valid_lists(alloc: Global, auction: &Auction) -> Result<Vec<ValidList>, Stopp
 fn valid_list(alloc: Global, auction: &Auction, k: usize) -> Result<ValidList, Stopped>
     requires { k < length auction.now.bidders }
     ensures list { IfOk result (λ valid. book_of valid ≡ list_at auction.now.bidders k) }
-    ensures valid { IfOk result (λ valid. IsValid (list_at auction.now.bidders k)) }
+    ensures convex { IfOk result (λ valid. IsConvexList (list_at auction.now.bidders k).bids) }
     ensures refused { IfErr result (IsRefusedAt auction.now.bidders k) }
 {
     let (_, list) = auction.bidder(k);

@@ -1,2 +1,4 @@
-mod Tops
+pub mod ConvexLists
+pub mod FacetsAtScales
 mod NoneNegatives
+mod Tops

@@ -7,7 +7,7 @@ use Rattle.std.proofs.Math.IntN.{*ℤ_comm}
 use Rattle.mix_num.specs.Vectors.{Vector, bit, plus, only, shifted}
 use Rattle.mix_bids.specs.Bids.{AreBids, NoneNegative, top_value, total_weight, utility}
 use Rattle.mix_bids.specs.declared.bid.Bid.{Bid}
-use Rattle.mix_bids.proofs.Lengths.{over_of}
+use Rattle.mix_bids.proofs.Lengths.{AreOver, over_of}
 use Rattle.mix_bids.proofs.Weights.{utility_reads, utility_shifted}
 use Rattle.mix_bids.proofs.Locals.{local_utility}
 use Rattle.mix_bids.proofs.Far.{utility_far, utility_none}
@@ -17,19 +17,24 @@ use Rattle.mix_law.proofs.Lattice.{apart, more, over, over_is}
 use Rattle.mix_law.proofs.Ranges.{excess_covers, excess_nonnegative}
 
 -- the local difference is a facet weight, and none is negative
-local_kept : (n : ℕ) (bs : List Bid) → AreBids n bs → NoneNegative n bs → (x : Vector) (i j : ℕ) → i ≤ n → j ≤ n → i ≢ j
+local_kept : (n : ℕ) (bs : List Bid) → AreOver n bs → NoneNegative n bs → (x : Vector) (i j : ℕ) → i ≤ n → j ≤ n → i ≢ j
     → (utility bs x +ℤ utility bs (plus (plus x (only i)) (only j))) ≤ℤ (utility bs (plus x (only i)) +ℤ utility bs (plus x (only j)))
-local_kept n bs are valid x i j l m d =
-    let e = local_utility n bs x i j (over_of n bs are) l m d in
+local_kept n bs over valid x i j l m d =
+    let e = local_utility n bs x i j over l m d in
     let f = valid i j l m d x in
     omega (arith, ints)
 
-valid_keeps : (n : ℕ) (bs : List Bid) → AreBids n bs → NoneNegative n bs → KeepsLocal n (utility bs) (total_weight bs)
-valid_keeps n bs are valid = record {
-  reads = λ x y a. utility_reads n bs x y (over_of n bs are) a;
+-- bids with n offers each, whatever their values: what most facts rest on is kept where no facet weight is negative
+pub list_keeps : (n : ℕ) (bs : List Bid) → AreOver n bs → NoneNegative n bs → KeepsLocal n (utility bs) (total_weight bs)
+list_keeps n bs over valid = record {
+  reads = λ x y a. utility_reads n bs x y over a;
   shift = utility_shifted bs;
-  local = local_kept n bs are valid;
+  local = local_kept n bs over valid;
 }
+
+-- the same of a list of bids
+valid_keeps : (n : ℕ) (bs : List Bid) → AreBids n bs → NoneNegative n bs → KeepsLocal n (utility bs) (total_weight bs)
+valid_keeps n bs are valid = list_keeps n bs (over_of n bs are) valid
 
 -- by how much a choice is raised: the null choice by m, and each good by m
 abbrev null_part : ℕ → ℕ → ℕ
@@ -169,7 +174,7 @@ pub valid_convex : (n : ℕ) (bs : List Bid) → AreBids n bs → NoneNegative n
 valid_convex n bs are valid = record {
   reads = λ x y a. utility_reads n bs x y (over_of n bs are) a;
   shift = utility_shifted bs;
-  local = local_kept n bs are valid;
+  local = local_kept n bs (over_of n bs are) valid;
   far = λ x i l m h. utility_far n bs x i (over_of n bs are) (λ z. let no : 1 ≤ 0 = some_good i l z in omega arith) h;
   size = size_kept n bs are valid;
 }

@@ -3,11 +3,12 @@ use Rattle.std.specs.Prelude.{◌≡◌, ℕ, ◌<◌, ◌≤◌, ℤ, pos, ◌-
 use Rattle.mix_num.specs.Vectors.{Vector, with_null}
 use Rattle.mix_num.specs.Ranges.{AreWithin}
 use Rattle.mix_bids.specs.Bids.{Book, facet_weight}
+use Rattle.mix_bids.specs.Convexity.{IsConvexList}
 use Rattle.mix_validity.specs.declared.refused.NotValid.{NotValid as Facet}
 use Rattle.mix_validity.specs.declared.refused.Refused.{Refused}
 use Rattle.mix_validity.specs.declared.refused.Refused.TheVariants.{NotValid, Memory}
 
--- a true refusal of a list: two choices, a price for each good, and their facet weight there, which is negative
+-- a facet of negative weight: two choices, a price for each good, and their facet weight there, which is negative
 pub record IsNegativeFacet (book : Book) (facet : Facet) : Type 0 where
   pub order : facet.first < facet.second
   pub within : facet.second ≤ book.goods
@@ -15,9 +16,9 @@ pub record IsNegativeFacet (book : Book) (facet : Facet) : Type 0 where
   pub weight : facet.weight ≡ facet_weight book.goods facet.first facet.second book.bids (with_null facet.prices.items)
   pub negative : facet.weight <ℤ pos 0
 
--- a refusal that tells the truth: of want of memory nothing is said
+-- a true refusal: the list isn't convex, and this facet of it has negative weight; of want of memory nothing is said
 abbrev pub IsTrueRefusal : Book → Refused → Type 0
-IsTrueRefusal book (NotValid facet) = IsNegativeFacet book facet
+IsTrueRefusal book (NotValid facet) = ¬ IsConvexList book.bids × IsNegativeFacet book facet
 IsTrueRefusal book Memory = Unit {0}
 
 -- no facet weight of i and j is negative at any vector

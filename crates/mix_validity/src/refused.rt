@@ -15,7 +15,8 @@ pub struct NotValid {
     pub weight: i64,
 }
 
-/// Why a list isn't taken as a valid one: it has a facet of negative weight, or memory was wanted and not there.
+/// Why a list isn't taken as a valid one: it isn't convex, as a facet of negative weight shows, or memory was wanted and not
+/// there.
 #[derive(Drop)]
 pub enum Refused {
     NotValid(NotValid),

@@ -6,7 +6,8 @@ use mix_bids::BidList;
 use mix_law::Convex;
 use mix_num::{Prices, Set};
 
-/// A list of which no facet weight is negative at any whole prices: it stands for a demand.
+/// A list that is convex over all rational prices: it stands for a demand. What it carries is that no facet weight of it is
+/// negative at any whole prices, which is the same.
 #[derive(Drop)]
 pub struct ValidList {
     list: BidList,
@@ -18,6 +19,7 @@ pub struct ValidList {
 }
 
 impl ValidList {
+    ghost use Rattle.mix_bids.specs.Convexity.{IsConvexList};
     ghost use Rattle.mix_validity.specs.ValidLists.{book_of};
 
     // The list, once it is known that no facet weight of it is negative.
@@ -31,8 +33,10 @@ impl ValidList {
     }
 
     /// The list of bids.
+    #[tactic(auto, using(crate::proofs::ConvexLists::valid_is_convex))]
     pub fn list(&self) -> &BidList
-        ensures { result.now ≡ book_of self.now }
+        ensures value { result.now ≡ book_of self.now }
+        ensures convex { IsConvexList (book_of self.now).bids }
     {
         &self.list
     }

@@ -1,11 +1,13 @@
-// Exact validity: the search for a facet of negative weight.
+// Exact validity: a list is convex where the search for a facet of negative weight finds none.
 ghost use Rattle.std.specs.Prelude.{◌≡◌, ◌<◌, ◌≤◌, pos, ◌≤ℤ◌, IfErr, IfOk, MatchOption};
 ghost use Rattle.mix_bids.specs.Bids.{facet_weight, NoneNegative};
+ghost use Rattle.mix_bids.specs.Convexity.{IsConvexList};
 ghost use Rattle.mix_facets.specs.Planes.{IsLevelOf};
 ghost use Rattle.mix_facets.specs.Points.{prices_at, IsPoint};
 ghost use Rattle.mix_validity.specs.Refusals.{IsClear, IsClearAt, IsClearFrom, IsNegativeFacet, IsTrueRefusal};
 ghost use Rattle.mix_validity.specs.ValidLists.{book_of};
 
+use crate::convexity::convex_where_none_negative;
 use crate::refused::{NotValid, Refused};
 use crate::valid_list::ValidList;
 use mix_bids::BidList;
@@ -13,15 +15,16 @@ use mix_facets::{Level, Point, grid_of, levels_of, price_of, weight_at};
 use mix_num::Memory;
 use std::alloc::Global;
 
-/// The list as a valid one, if no facet weight of it is negative at any whole prices. A list that isn't is dropped.
+/// The list as a valid one, if it is convex over all rational prices, negative ones among them. A list that isn't is dropped.
 ///
-/// `Refused::NotValid` comes exactly where some facet weight is negative, and carries such a facet. `Refused::Memory`
-/// comes where memory is wanting.
+/// `Refused::NotValid` comes exactly where the list isn't convex, and carries a facet of negative weight, which shows it.
+/// `Refused::Memory` comes where memory is wanting.
 pub fn validate(alloc: Global, list: BidList) -> Result<ValidList, Refused>
     ensures list { IfOk result (λ valid. book_of valid ≡ list) }
-    ensures valid { IfOk result (λ valid. NoneNegative list.goods list.bids) }
+    ensures convex { IfOk result (λ valid. IsConvexList list.bids) }
     ensures refused { IfErr result (IsTrueRefusal list) }
 {
+    convex_where_none_negative(&list);
     let Ok(found) = refusal_of(alloc, &list) else {
         return Err(Refused::Memory);
     };

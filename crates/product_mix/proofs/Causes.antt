@@ -5,9 +5,8 @@ use Rattle.std.proofs.lemmas.Fmt.{decimal_digit}
 use Rattle.mix_text.specs.declared.faults.TextError.{TextError}
 use Rattle.mix_text.specs.declared.faults.TextError.TheVariants as error
 use Rattle.mix_io.specs.Given.{IsLonger}
-use Rattle.mix_solve.proofs.TrueRefusals.{refused_invalid}
 use Rattle.product_mix.specs.Outputs.{Output, one_row, refusal, too_long}
-use Rattle.product_mix.specs.Calls.{HasFault, HasInvalid, HasLimit, IsAnswered, IsDone, IsOutput, IsUnmet, IsWanted, IsWrong, IsWritten}
+use Rattle.product_mix.specs.Calls.{HasConvex, HasFault, HasLimit, HasNonconvex, IsAnswered, IsDone, IsMet, IsOutput, IsUnmet, IsWanted, IsWrong, IsWritten}
 use Rattle.product_mix.specs.declared.words.Command.{Command}
 use Rattle.product_mix.specs.declared.words.Command.TheVariants.{Prices, Utility, Validate}
 
@@ -25,16 +24,16 @@ done_status Prices text output done = elim done.2 [
   | inr refused ↦ omega (arith, status_of _ _ refused.2)
 ]
 
--- an output with status 1 that is wanted of a text shows a list that isn't valid
-invalid_done : (command : Command) (text : List ℕ) (output : Output) → IsDone command text output → output.status ≡ 1 → IsUnmet command text
-invalid_done Utility text output done s = absurd (omega (arith, s, status_of _ _ done.2))
-invalid_done Validate text output done s = elim done.2 [
+-- an output with status 1 that is wanted of a text shows a list that isn't convex
+unmet_done : (command : Command) (text : List ℕ) (output : Output) → IsDone command text output → output.status ≡ 1 → IsUnmet command text
+unmet_done Utility text output done s = absurd (omega (arith, s, status_of _ _ done.2))
+unmet_done Validate text output done s = elim done.2 [
   | inl valid ↦ absurd (omega (arith, s, status_of _ _ valid.1))
-  | inr refused ↦ (done.0, done.1, refused.0.bidder, refused.1.bidder, refused_invalid done.0.bidders refused.0 refused.1)
+  | inr refused ↦ (done.0, done.1, refused.0.bidder, refused.1.bidder, refused.1.refused)
 ]
-invalid_done Prices text output done s = elim done.2 [
+unmet_done Prices text output done s = elim done.2 [
   | inl priced ↦ absurd (omega (arith, s, status_of _ _ priced.3))
-  | inr refused ↦ (done.0, done.1, refused.0.bidder, refused.1.bidder, refused_invalid done.0.bidders refused.0 refused.1)
+  | inr refused ↦ (done.0, done.1, refused.0.bidder, refused.1.bidder, refused.1.refused)
 ]
 
 refusal_status : (e : TextError) → (refusal e).status ≡ 1 → ⊥
@@ -42,21 +41,55 @@ refusal_status (error.Fault fault) s = omega (arith, s)
 refusal_status (error.Limit limit) s = omega (arith, s)
 refusal_status error.Memory s = omega (arith, s)
 
-invalid_output : (command : Command) (text : List ℕ) (output : Output) → IsOutput command text output → output.status ≡ 1 → HasInvalid (Some command) (Some text)
-invalid_output command text output is s = elim is [
+unmet_output : (command : Command) (text : List ℕ) (output : Output) → IsOutput command text output → output.status ≡ 1 → HasNonconvex (Some command) (Some text)
+unmet_output command text output is s = elim is [
   | inl long ↦ absurd (omega (arith, s, status_of _ _ long.1))
   | inr short ↦ elim short.1 [
     | inl refused ↦ absurd (refusal_status refused.0 (sym (status_of _ _ refused.2) ∙ s))
-    | inr done ↦ invalid_done command text output done s
+    | inr done ↦ unmet_done command text output done s
   ]
 ]
 
-invalid_wanted : (command : Option Command) (text : Option (List ℕ)) (P : Type 0) (output : Output) → IsWanted command text P output → output.status ≡ 1 → HasInvalid command text
-invalid_wanted None text P output w s = absurd (omega (arith, s, status_of _ _ w.unknown))
-invalid_wanted (Some command) None P output w s = tt
-invalid_wanted (Some command) (Some text) P output w s = elim w.known [
+unmet_wanted : (command : Option Command) (text : Option (List ℕ)) (P : Type 0) (output : Output) → IsWanted command text P output → output.status ≡ 1 → HasNonconvex command text
+unmet_wanted None text P output w s = absurd (omega (arith, s, status_of _ _ w.unknown))
+unmet_wanted (Some command) None P output w s = tt
+unmet_wanted (Some command) (Some text) P output w s = elim w.known [
   | inl unread ↦ absurd (omega (arith, s, status_of _ _ unread.1))
-  | inr is ↦ invalid_output command text output is s
+  | inr is ↦ unmet_output command text output is s
+]
+
+-- an output with status 0 that is wanted of a text shows convex lists, where the command needs them
+met_done : (command : Command) (text : List ℕ) (output : Output) → IsDone command text output → output.status ≡ 0 → IsMet command text
+met_done Utility text output done s = tt
+met_done Validate text output done s = elim done.2 [
+  | inl valid ↦ (done.0, done.1, valid.0)
+  | inr refused ↦ absurd (omega (arith, s, status_of _ _ refused.2))
+]
+met_done Prices text output done s = elim done.2 [
+  | inl priced ↦ (done.0, done.1, priced.1)
+  | inr refused ↦ absurd (omega (arith, s, status_of _ _ refused.2))
+]
+
+refusal_done : (e : TextError) → (refusal e).status ≡ 0 → ⊥
+refusal_done (error.Fault fault) s = omega (arith, s)
+refusal_done (error.Limit limit) s = omega (arith, s)
+refusal_done error.Memory s = omega (arith, s)
+
+met_output : (command : Command) (text : List ℕ) (output : Output) → IsOutput command text output → output.status ≡ 0 → HasConvex (Some command) (Some text)
+met_output command text output is s = elim is [
+  | inl long ↦ absurd (omega (arith, s, status_of _ _ long.1))
+  | inr short ↦ elim short.1 [
+    | inl refused ↦ absurd (refusal_done refused.0 (sym (status_of _ _ refused.2) ∙ s))
+    | inr done ↦ met_done command text output done s
+  ]
+]
+
+met_wanted : (command : Option Command) (text : Option (List ℕ)) (P : Type 0) (output : Output) → IsWanted command text P output → output.status ≡ 0 → HasConvex command text
+met_wanted None text P output w s = absurd (omega (arith, s, status_of _ _ w.unknown))
+met_wanted (Some command) None P output w s = tt
+met_wanted (Some command) (Some text) P output w s = elim w.known [
+  | inl unread ↦ absurd (omega (arith, s, status_of _ _ unread.1))
+  | inr is ↦ met_output command text output is s
 ]
 
 -- an output with status 3 that is wanted of a text shows a fault
@@ -109,10 +142,14 @@ limit_wanted (Some command) (Some text) P output w s = elim w.known [
 whole_status : (output : Output) (P : Type 0) (taken now : Option (List ℕ)) (status : ℕ) → IsWritten output P taken now status → status ≢ 6 → output.status ≡ status
 whole_status output P taken now status w h = sym (w.whole h).0
 
--- status 1 comes only of a list that isn't valid, status 3 only of a fault, and status 4 only of a limit
-pub invalid_cause : (command : Option Command) (text : Option (List ℕ)) (P Q : Type 0) (taken now : Option (List ℕ)) (status : ℕ) → IsAnswered command text P Q taken now status → status ≡ 1 → HasInvalid command text
-invalid_cause command text P Q taken now status a h =
-    invalid_wanted command text P a.output a.wanted (whole_status a.output Q taken now status a.written (λ six. omega (arith, six, h)) ∙ h)
+-- status 0 comes only of convex lists, status 1 only of a list that isn't convex, status 3 only of a fault, and status 4 only of a limit
+pub nonconvex_cause : (command : Option Command) (text : Option (List ℕ)) (P Q : Type 0) (taken now : Option (List ℕ)) (status : ℕ) → IsAnswered command text P Q taken now status → status ≡ 1 → HasNonconvex command text
+nonconvex_cause command text P Q taken now status a h =
+    unmet_wanted command text P a.output a.wanted (whole_status a.output Q taken now status a.written (λ six. omega (arith, six, h)) ∙ h)
+
+pub convex_cause : (command : Option Command) (text : Option (List ℕ)) (P Q : Type 0) (taken now : Option (List ℕ)) (status : ℕ) → IsAnswered command text P Q taken now status → status ≡ 0 → HasConvex command text
+convex_cause command text P Q taken now status a h =
+    met_wanted command text P a.output a.wanted (whole_status a.output Q taken now status a.written (λ six. omega (arith, six, h)) ∙ h)
 
 pub fault_cause : (command : Option Command) (text : Option (List ℕ)) (P Q : Type 0) (taken now : Option (List ℕ)) (status : ℕ) → IsAnswered command text P Q taken now status → status ≡ 3 → HasFault command text
 fault_cause command text P Q taken now status a h =

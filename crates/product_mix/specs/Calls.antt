@@ -9,7 +9,7 @@ use Rattle.mix_text.specs.declared.faults.TextError.TheVariants as error
 use Rattle.product_mix.specs.Outputs.{Output, most_bytes, refusal, too_long, unknown_words, unread}
 use Rattle.product_mix.specs.Pricings.{IsPricingOf}
 use Rattle.product_mix.specs.Readings.{auction_alone}
-use Rattle.product_mix.specs.Refusals.{IsInvalid}
+use Rattle.product_mix.specs.Refusals.{HasConvexLists, HasNonconvexList}
 use Rattle.product_mix.specs.Utilities.{utility_text}
 use Rattle.product_mix.specs.Validities.{IsValidityOf}
 use Rattle.product_mix.specs.declared.words.Command.{Command}
@@ -65,15 +65,25 @@ HasFault command text = IsSomeAnd command (λ c. IfSome text (λ bytes. (fault :
 abbrev pub HasLimit : Option Command → Option (List ℕ) → Type 0
 HasLimit command text = IsSomeAnd command (λ c. IfSome text (λ bytes. (most_bytes < length bytes) ⊎ ((limit : Limit) × IsWrong c bytes (error.Limit limit))))
 
--- a text is as the command wants it, but some bidder's list isn't valid, and the command needs valid lists
+-- a text is as the command wants it, but some bidder's list isn't convex, and the command needs convex lists
 abbrev pub IsUnmet : Command → List ℕ → Type 0
 IsUnmet Utility text = ⊥
-IsUnmet Validate text = IsInvalid text
-IsUnmet Prices text = IsInvalid text
+IsUnmet Validate text = HasNonconvexList text
+IsUnmet Prices text = HasNonconvexList text
 
--- the words call a command that needs valid lists, and in the text, where it is told, some bidder's list isn't valid
-abbrev pub HasInvalid : Option Command → Option (List ℕ) → Type 0
-HasInvalid command text = IsSomeAnd command (λ c. IfSome text (λ bytes. IsUnmet c bytes))
+-- the words call a command that needs convex lists, and in the text, where it is told, some bidder's list isn't convex
+abbrev pub HasNonconvex : Option Command → Option (List ℕ) → Type 0
+HasNonconvex command text = IsSomeAnd command (λ c. IfSome text (λ bytes. IsUnmet c bytes))
+
+-- a text is as the command wants it, and each bidder's list is convex, where the command needs convex lists
+abbrev pub IsMet : Command → List ℕ → Type 0
+IsMet Utility text = Unit {0}
+IsMet Validate text = HasConvexLists text
+IsMet Prices text = HasConvexLists text
+
+-- the words call a command, and where it needs convex lists, each bidder's list in the text, where it is told, is convex
+abbrev pub HasConvex : Option Command → Option (List ℕ) → Type 0
+HasConvex command text = IsSomeAnd command (λ c. IfSome text (λ bytes. IsMet c bytes))
 
 -- at most n bytes were taken from the front of those that are left, where they are told
 abbrev pub TakesAtMost : ℕ → Option (List ℕ) → Option (List ℕ) → Type 0

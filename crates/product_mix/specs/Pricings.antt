@@ -4,7 +4,7 @@ use Rattle.std.specs.Fmt.{signed_decimal}
 use Rattle.mix_text.specs.Auctions.{AuctionText}
 use Rattle.mix_text.specs.Pages.{line_of}
 use Rattle.mix_solve.specs.LeastPrices.{AreLeastPrices}
-use Rattle.mix_solve.specs.Refusals.{AreValid}
+use Rattle.mix_solve.specs.Refusals.{AreConvex}
 use Rattle.product_mix.specs.Outputs.{Output}
 use Rattle.product_mix.specs.Readings.{auction_alone}
 use Rattle.product_mix.specs.Refusals.{IsRefusal}
@@ -17,10 +17,10 @@ price_row prices = codes "price" ∷ map signed_decimal prices
 abbrev pub prices_page : List ℤ → List ℕ
 prices_page prices = line_of (price_row prices) ++ line_of (codes "end" ∷ [])
 
--- the output of `prices` for an auction: its least prices where each list is valid, else a refusal
+-- the output of `prices` for an auction: its least prices where each list is convex, else a refusal
 abbrev pub IsPricing : AuctionText → Output → Type 0
 IsPricing a output =
-    ((prices : List ℤ) × AreValid a.bidders × AreLeastPrices a prices × (output ≡ record { status = 0; bytes = prices_page prices }))
+    ((prices : List ℤ) × AreConvex a.bidders × AreLeastPrices a prices × (output ≡ record { status = 0; bytes = prices_page prices }))
     ⊎ IsRefusal a output
 
 -- the output of `prices` for a text of an auction alone

@@ -5,7 +5,7 @@ ghost use Rattle.std.specs.String.{string_bytes};
 ghost use Rattle.mix_io.specs.Causes.{Rose};
 ghost use Rattle.mix_io.specs.Given.{IsLonger};
 ghost use Rattle.product_mix.specs.Answers.{output_of};
-ghost use Rattle.product_mix.specs.Calls.{HasFault, HasInvalid, HasLimit, IsAnswered, IsDone, IsOutput, IsWritten, IsWrong, TakesAtMost, WritesFor};
+ghost use Rattle.product_mix.specs.Calls.{HasConvex, HasFault, HasLimit, HasNonconvex, IsAnswered, IsDone, IsOutput, IsWritten, IsWrong, TakesAtMost, WritesFor};
 ghost use Rattle.product_mix.specs.Words.{command_of};
 
 use crate::answer::Answer;
@@ -123,13 +123,13 @@ fn perform<I: Source, K: Sink>(
     }
 }
 
-#[tactic(auto, using(crate::proofs::Causes::fault_cause, crate::proofs::Causes::invalid_cause, crate::proofs::Causes::limit_cause, crate::proofs::Causes::no_failure))]
+#[tactic(auto, using(crate::proofs::Causes::convex_cause, crate::proofs::Causes::fault_cause, crate::proofs::Causes::limit_cause, crate::proofs::Causes::no_failure, crate::proofs::Causes::nonconvex_cause))]
 /// Does the command of the words on the bytes of the input, and gives the status.
 ///
-/// 0: the command was done. 1: it needs valid lists, and some bidder's list isn't. 2: the words call no command; then nothing is read, and no memory taken. 3: the text has a
-/// fault. 4: it passes a limit, or has more than 4,194,304 bytes. 5: a read failed. 6: a write failed, and a prefix of
-/// the text was written. 7: memory was wanting, and nothing was written. With every other status the whole text was
-/// written.
+/// 0: the command was done. 1: it needs lists that are convex over all rational prices, and some bidder's list isn't. 2: the
+/// words call no command; then nothing is read, and no memory taken. 3: the text has a fault. 4: it passes a limit, or has
+/// more than 4,194,304 bytes. 5: a read failed. 6: a write failed, and a prefix of the text was written. 7: memory was
+/// wanting, and nothing was written. With every other status the whole text was written.
 pub fn run<I: Source, K: Sink>(alloc: Global, words: &[String], input: &mut I, output: &mut K) -> u8
     ensures range { result < 8 }
 
@@ -140,7 +140,8 @@ pub fn run<I: Source, K: Sink>(alloc: Global, words: &[String], input: &mut I, o
     // What each status means.
     ensures unknown { command_of (map (λ w. string_bytes w) words.now) ≡ None → (result ≡ 2) ⊎ (result ≡ 6) }
     ensures known { result ≡ 2 → command_of (map (λ w. string_bytes w) words.now) ≡ None }
-    ensures invalid { result ≡ 1 → HasInvalid (command_of (map (λ w. string_bytes w) words.now)) (I.left input.old) }
+    ensures convex { result ≡ 0 → HasConvex (command_of (map (λ w. string_bytes w) words.now)) (I.left input.old) }
+    ensures nonconvex { result ≡ 1 → HasNonconvex (command_of (map (λ w. string_bytes w) words.now)) (I.left input.old) }
     ensures fault { result ≡ 3 → HasFault (command_of (map (λ w. string_bytes w) words.now)) (I.left input.old) }
     ensures limit { result ≡ 4 → HasLimit (command_of (map (λ w. string_bytes w) words.now)) (I.left input.old) }
     ensures unread { result ≡ 5 → Rose (I.faults input.old) (I.faults input.new) }

@@ -64,7 +64,7 @@ pub fn refused(alloc: Global, error: TextError) -> Result<Answer, Memory>
     }
 }
 
-/// The answer to an auction with this refusal of a bidder, whose list isn't valid: status 1 and the outcome's text.
+/// The answer to an auction with this refusal of a bidder, whose list isn't convex: status 1 and the outcome's text.
 pub fn refused_bidder(alloc: Global, auction: &Auction, refusal: Refusal) -> Result<Answer, Memory>
     requires truth { IsTrueRefusal auction.now.bidders refusal }
     requires shape { FitsAuction (auction_text auction.now) refusal }

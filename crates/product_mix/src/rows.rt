@@ -76,7 +76,7 @@ pub fn add_utility(
     page.end_row()
 }
 
-/// Adds the row of the bidder at a place, from 0, whose list is valid: its total.
+/// Adds the row of the bidder at a place, from 0, whose list is convex: its total.
 pub fn add_valid(page: &mut Page, auction: &Auction, k: usize) -> Result<(), Memory>
     requires closed { page.old.fields ≡ [] }
     requires place { k < length auction.now.bidders }

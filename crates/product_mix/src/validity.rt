@@ -1,4 +1,4 @@
-// The command `validate`: each bidder's total where every list is valid, else a refusal of the first bidder whose list isn't.
+// The command `validate`: each bidder's total where every list is convex, else a refusal of the first bidder whose list isn't.
 ghost use Rattle.std.specs.Prelude.{◌≡◌, ◌<◌, ◌≤◌, ◌++◌, [], length, map, IfOk, IfErr, OnOk};
 ghost use Rattle.mix_text.specs.AuctionTexts.{auction_text};
 ghost use Rattle.mix_text.specs.Pages.{printed};
@@ -39,7 +39,7 @@ fn valid_text(alloc: Global, auction: &Auction) -> Result<Vec<u8>, Memory>
     page.finish()
 }
 
-// The totals of the bidders where every list is valid, else a refusal.
+// The totals of the bidders where every list is convex, else a refusal.
 fn validity(alloc: Global, auction: &Auction) -> Result<Answer, Memory>
     ensures output { IfOk result (λ answer. IsValidity (auction_text auction.now) (output_of answer)) }
     ensures status { IfOk result (λ answer. answer.status < 2) }
@@ -53,7 +53,7 @@ fn validity(alloc: Global, auction: &Auction) -> Result<Answer, Memory>
     }
 }
 
-/// Reads an auction that nothing follows, and prints with status 0 each bidder's total where every list is valid, else
+/// Reads an auction that nothing follows, and prints with status 0 each bidder's total where every list is convex, else
 /// with status 1 a refusal of the first bidder whose list isn't.
 ///
 /// The error is what is wrong first with the text, which has at most 4,194,304 bytes; `Memory` may come in place of any

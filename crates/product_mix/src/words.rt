@@ -11,9 +11,9 @@ use mix_text::{Code, What};
 pub enum Command {
     /// Print each bidder's indirect utility at given prices.
     Utility,
-    /// Print each bidder's total, where every list of bids is valid.
+    /// Print each bidder's total, where every list of bids is convex.
     Validate,
-    /// Print the least prices, where every list of bids is valid.
+    /// Print the least prices, where every list of bids is convex.
     Prices,
 }
 

@@ -1,6 +1,5 @@
-use Rattle.std.proofs.Common.{◌≡◌, ℕ, ◌*◌, ◌^◌, ◌<◌, ℤ, ◌*ℤ◌, SFits, to_z, of_z, w64, arith, ◌∙◌}
+use Rattle.std.proofs.Common.{w64, arith}
 use Rattle.std.proofs.lemmas.Int.{ints, to_z-of_z}
-use Rattle.mix_num.specs.Ranges.{Lies}
 use Rattle.mix_num.proofs.Additions.{product_lies}
 use Rattle.mix_num.proofs.sums.cost.Goals as goal
 

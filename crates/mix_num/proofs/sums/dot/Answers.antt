@@ -1,6 +1,5 @@
-use Rattle.std.proofs.Common.{◌≡◌, ℕ, ◌+◌, ◌*◌, ◌<◌, List, length, get_or, ℤ, pos, ◌+ℤ◌, ◌*ℤ◌, ◌≤ℤ◌, arith, ap, ap₂, sym, ◌∙◌, w64, to_z, of_z}
+use Rattle.std.proofs.Common.{◌≡◌, ℕ, ◌<◌, List, length, get_or, ℤ, pos, ◌*ℤ◌, arith, ap, ap₂, sym, ◌∙◌, w64, to_z, of_z}
 use Rattle.std.proofs.lemmas.Int.{ints}
-use Rattle.mix_num.specs.Ranges.{Lies}
 use Rattle.mix_num.proofs.Additions.{dot_of_first-none, dot_of_first-more, dot_of_first-all}
 use Rattle.mix_num.proofs.sums.dot.Goals as goal
 

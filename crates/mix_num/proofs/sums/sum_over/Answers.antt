@@ -1,7 +1,6 @@
-use Rattle.std.proofs.Common.{◌≡◌, ℕ, ◌+◌, ◌*◌, ◌<◌, List, ◌∷◌, Bool, cond, length, get_or, ℤ, pos, ◌+ℤ◌, ◌≤ℤ◌, arith, ap, ap₂, sym, ◌∙◌, w64, to_z, of_z}
+use Rattle.std.proofs.Common.{◌≡◌, ◌+◌, ◌<◌, List, ◌∷◌, Bool, cond, length, get_or, ℤ, pos, arith, ap, ap₂, ◌∙◌, w64, to_z, of_z}
 use Rattle.std.proofs.lemmas.Int.{ints, to_z-of_z}
 use Rattle.mix_num.specs.Vectors.{members}
-use Rattle.mix_num.specs.Ranges.{Lies}
 use Rattle.mix_num.proofs.Additions.{sum_of_first, sum_of_first-null, sum_of_first-more, sum_of_first-all, counted_lies}
 use Rattle.mix_num.proofs.sums.sum_over.Goals as goal
 

@@ -13,4 +13,4 @@ returns-in_ok-bytes-in-Market-clause-output c =
     let is : IsMarketOf a market = search rules in
     let text : c.in_ok-bytes-in-Market.bytes.items ≡ prices_page prices = search rules in
     let least = c.least_prices-prices.ensures in
-    inl (prices, is.valid, least_of_auction a market prices c.args.auction.now.sound is least.range.0 least.least, ap (λ bytes. record { status = 0; bytes = bytes }) text)
+    inl (prices, is.convex, least_of_auction a market prices c.args.auction.now.sound is least.range.0 least.least, ap (λ bytes. record { status = 0; bytes = bytes }) text)
