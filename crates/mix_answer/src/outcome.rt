@@ -4,6 +4,6 @@ use crate::refusal::Refusal;
 /// The outcome of an auction.
 #[derive(Drop)]
 pub enum Outcome {
-    /// A bidder's list isn't valid.
+    /// A bidder's list isn't convex.
     Refused(Refusal),
 }

@@ -1,4 +1,5 @@
-//! Validity of lists of bids, decided exactly, and valid lists as members of the market.
+//! Validity of lists of bids, which is convexity over all rational prices, decided exactly; and valid lists as members of the
+//! market.
 #![tactic(auto)]
 
 mod convexity;

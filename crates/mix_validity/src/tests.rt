@@ -69,6 +69,17 @@ fn seven(alloc: Global) -> Result<BidList, Memory> {
     Ok(list)
 }
 
+/// Four bids whose one facet of negative weight is met at the prices 3 and 2 alone. That the list isn't convex shows at 3.5
+/// and 2.5, half way between 3 and 3, and 4 and 2.
+fn four(alloc: Global) -> Result<BidList, Memory> {
+    let mut list = BidList::new(alloc, 2);
+    add(&mut list, bid(2, &[Some(3), Some(2)]))?;
+    add(&mut list, bid(2, &[Some(3), Some(3)]))?;
+    add(&mut list, bid(-1, &[Some(4), Some(3)]))?;
+    add(&mut list, bid(1, &[Some(4), None]))?;
+    Ok(list)
+}
+
 /// Twelve times the same bid of negative weight on one good.
 fn twelve(alloc: Global) -> Result<BidList, Memory> {
     let mut list = BidList::new(alloc, 1);
@@ -99,6 +110,7 @@ fn refusals(rt: HostRuntime) -> Result<(), Fail> {
         (together(rt.alloc(), 6)?, Some((1, 2, -1, -1))),
         (together(rt.alloc(), 0)?, Some((1, 2, -1, -1))),
         (seven(rt.alloc())?, Some((0, 1, -1, -1))),
+        (four(rt.alloc())?, Some((1, 2, -1, -1))),
         (twelve(rt.alloc())?, Some((0, 1, -12, -12))),
     ];
     for (list, expected) in rows {
