@@ -22,7 +22,7 @@ fn add_name(page: &mut Page, name: &Name) -> Result<(), Memory>
 }
 
 // Adds the name of the bidder at a place, from 0, to the open row.
-#[tactic(auto, using(crate::proofs::AuctionNames::bidder_named))]
+#[tactic(auto, using(mix_text::proofs::AuctionNames::bidder_named))]
 fn add_bidder(page: &mut Page, auction: &Auction, k: usize) -> Result<(), Memory>
     requires { k < length auction.now.bidders }
     ensures { OnOk result (page.new ≡ record page.old { fields = page.old.fields ++ name_at auction.now.bidders k ∷ [] }) }

@@ -1,5 +1,5 @@
 -- The bidders of the bids so far, and what one more bid makes of them.
-use Rattle.std.proofs.Common.{◌≡◌, ◌<◌, ◌≤◌, ◌||◌, ◌&&◌, ◌+◌, ℕ, zero, suc, List, [], ◌∷◌, ◌++◌, length, map, get_or, set, refl, sym, ap, ap₂, ◌∙◌, arith, Option, Some, None, Bool, true, false, not, cond, inl, inr, true≢false, nat_lt, append-nil}
+use Rattle.std.proofs.Common.{◌≡◌, ◌<◌, ℕ, List, [], ◌∷◌, ◌++◌, length, map, get_or, set, refl, sym, ap, ap₂, ◌∙◌, arith, Some, None, Bool, true, false, not, cond, inl, inr, true≢false, nat_lt, append-nil}
 use Rattle.std.specs.Prelude.{nat_le}
 use Rattle.std.specs.List.{list_any, position, prefix_len}
 use Rattle.std.specs.Str.{bytes_eq}
@@ -12,7 +12,6 @@ use Rattle.mix_bids.specs.declared.bid.Bid.{Bid}
 use Rattle.mix_text.specs.Bidders.{list_at, name_at, place_of, with_bid_at}
 use Rattle.mix_text.specs.Names.{different, is_among}
 use Rattle.mix_text.specs.Reading.{Limits, NamedBid, bidders_of, bids_under, limit_of, list_limit_of, names_of}
-use Rattle.mix_text.specs.declared.faults.What.{What}
 use Rattle.mix_text.specs.declared.faults.What.TheVariants as what
 use Rattle.mix_text.proofs.Entries.{position-map}
 use Rattle.mix_text.proofs.Gathering.{among_different, bids_under_none, bids_under_snoc, bytes_eq_refl, different_snoc, different_unlike, map_at, map_other, same_bytes}

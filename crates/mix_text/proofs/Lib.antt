@@ -12,5 +12,6 @@ mod Gathering
 mod Bids
 mod Keys
 mod Steps
-mod Sound
+pub mod Sound
 pub mod SoundAuctions
+pub mod AuctionNames

@@ -25,8 +25,9 @@ digits-name (c ∷ cs) h =
 decimal-name : (n : ℕ) → n < 2 ^ 64 → list_all is_name_byte (decimal n) ≡ true
 decimal-name n h = digits-name (decimal n) (digits_decimal own n h)
 
-printable-decimal : (n : ℕ) → n < 2 ^ 64 → is_printable (decimal n) ≡ true
-printable-decimal n h =
+-- a printed number with no sign may be printed as a field
+pub decimal_printable : (n : ℕ) → n < 2 ^ 64 → is_printable (decimal n) ≡ true
+decimal_printable n h =
     let some = decimal_nonempty n h in
     let name = decimal-name n h in
     grind (arith, nat_tests)
@@ -34,9 +35,9 @@ printable-decimal n h =
 minus-printable : (ds : List ℕ) → list_all is_name_byte ds ≡ true → is_printable (45 ∷ ds) ≡ true
 minus-printable ds h = let some : nat_lt 0 (length (45 ∷ ds)) ≡ true = grind (arith, nat_tests) in rw (some, h) refl
 
--- a printed number may be printed as a field
+-- and so may one with a sign
 pub signed_printable : (z : ℤ) → FitsSigned w64 z → is_printable (signed_decimal z) ≡ true
-signed_printable (pos n) h = printable-decimal n (omega arith)
+signed_printable (pos n) h = decimal_printable n (omega arith)
 signed_printable (negsuc n) h =
     let lt : suc n < 2 ^ 64 = omega arith in
     let name = decimal-name (suc n) lt in

@@ -1,7 +1,6 @@
 -- What is read keeps to its ranges: numbers, names, bids.
-use Rattle.std.proofs.Common.{◌≡◌, ◌≢◌, ◌≤ℤ◌, ◌<◌, ◌≤◌, ◌+◌, ◌-◌, ◌&&◌, ◌==◌, ℕ, zero, suc, ℤ, pos, neg_ℤ, List, [], ◌∷◌, length, drop, get_or, sym, ◌∙◌, ap, arith, refl, subst, Option, Some, None, Ok, Err, Result, Bool, true, false, not, inl, inr, if◌then◌else◌, int_eq, All, eqb}
+use Rattle.std.proofs.Common.{◌≡◌, ◌≢◌, ◌≤ℤ◌, ◌+◌, ◌==◌, ℕ, suc, ℤ, pos, neg_ℤ, List, [], ◌∷◌, length, drop, ◌∙◌, ap, arith, refl, subst, Option, Some, None, Ok, Err, Result, Bool, true, false, not, inl, inr, int_eq, All}
 use Rattle.std.specs.Prelude.{codes}
-use Rattle.std.specs.Int.Signed.{le_z}
 use Rattle.std.specs.Str.{bytes_eq}
 use Rattle.std.proofs.lemmas.Bool.{cases_Bool}
 use Rattle.std.proofs.lemmas.Bool.Decides.{nat_tests}
@@ -10,12 +9,12 @@ use Rattle.std.proofs.lemmas.List.{length-drop}
 use Rattle.std.proofs.lemmas.List.Elements.{All-cons}
 use Rattle.mix_num.specs.Ranges.{Lies}
 use Rattle.mix_bids.specs.Bids.{IsBid}
-use Rattle.mix_bids.specs.Offers.{AreOffers, IsOffer, Offers, offers_some}
-use Rattle.mix_bids.specs.declared.bid.Bid.{Bid}
-use Rattle.mix_text.specs.Spelling.{is_name, name_of, number_of, within}
-use Rattle.mix_text.specs.Reading.{◌>>=◌, NamedBid, begins, bid_of, bid_row_of, each_of, field_at, holds, number_in, value_of, weight_of}
+use Rattle.mix_bids.specs.Offers.{IsOffer, offers_some}
+use Rattle.mix_text.specs.Spelling.{is_name, name_of, number_of}
+use Rattle.mix_text.specs.Reading.{◌>>=◌, NamedBid, begins, bid_of, bid_row_of, each_of, field_at, holds, number_in, numbers_of, value_of, weight_of}
 use Rattle.mix_text.specs.declared.faults.Code.{Code}
 use Rattle.mix_text.specs.declared.faults.Code.TheVariants as code
+use Rattle.mix_text.proofs.Spellings.{name_read, within_range}
 
 -- ---- steps of a reading that went well
 
@@ -27,25 +26,8 @@ pub holds_ok : (t : Bool) (c : Code) (u : Unit {0}) → holds t c ≡ Ok u → t
 holds_ok true c u e = refl
 holds_ok false c u e = cc e
 
-pub name_ok : (field name : List ℕ) → name_of field ≡ Ok name → is_name name ≡ true
-unfolding name_of
-name_ok field name e = elim (cases_Bool (is_name field)) [
-  | inl t ↦ (let q = rw t at e in let same : field ≡ name = cc q in ap is_name (sym same) ∙ t)
-  | inr f ↦ absurd (let q = rw f at e in cc q)
-]
-
-within-go : (low high v w : ℤ) (a b : Bool) → le_z low v ≡ a → le_z v high ≡ b → (if a && b then Ok v else Err code.Range) ≡ Ok w → (low ≤ℤ w) × (w ≤ℤ high)
-within-go low high v w true true p q e = let same : v ≡ w = cc e in rw (← same) (grind (arith, ints), grind (arith, ints))
-within-go low high v w true false p q e = cc e
-within-go low high v w false b p q e = cc e
-
-within-ok : (low high : ℤ) (o : Option ℤ) (w : ℤ) → within low high o ≡ Ok w → (low ≤ℤ w) × (w ≤ℤ high)
-unfolding within
-within-ok low high None w e = cc e
-within-ok low high (Some v) w e = within-go low high v w _ _ refl refl e
-
 pub number_ok : (low high : ℤ) (field : List ℕ) (w : ℤ) → number_in low high field ≡ Ok w → (low ≤ℤ w) × (w ≤ℤ high)
-number_ok low high field w e = within-ok low high (number_of field) w e
+number_ok low high field w e = within_range low high (number_of field) w e
 
 weight_ok : (field : List ℕ) (w : ℤ) → weight_of field ≡ Ok w → Lies 10000 w × (w ≢ pos 0)
 unfolding weight_of
@@ -81,6 +63,16 @@ each_ok {X = X} read P ok (field ∷ rest) xs e =
 pub equal_numbers : (a b : ℕ) → (a == b) ≡ true → a ≡ b
 equal_numbers a b h = grind (arith, nat_tests)
 
+-- the numbers of a row, one for each good
+pub numbers_ok : (low high : ℤ) (word : List ℕ) (n : ℕ) (fields : List (List ℕ)) (xs : List ℤ) → numbers_of word n low high fields ≡ Ok xs → (length xs ≡ n) × All (λ x. (low ≤ℤ x) × (x ≤ℤ high)) xs
+unfolding numbers_of
+numbers_ok low high word n fields xs e =
+    let a = then_ok (holds (begins fields word) code.Place) _ xs e in
+    let b = then_ok (holds (length fields == n + 1) code.Fields) _ xs a.2 in
+    let size = equal_numbers (length fields) (n + 1) (holds_ok (length fields == n + 1) code.Fields b.0 b.1) in
+    let r = each_ok (number_in low high) (λ x. (low ≤ℤ x) × (x ≤ℤ high)) (λ field x. number_ok low high field x) (drop 1 fields) xs b.2 in
+    (omega (arith, r.0, size, length-drop 1 fields), r.1)
+
 -- a named bid over n goods
 pub record IsNamedBid (n : ℕ) (b : NamedBid) : Type 0 where
   pub name : is_name b.name ≡ true
@@ -100,7 +92,7 @@ bid_ok n fields b e =
     let w = weight_ok (field_at fields 2) weight.0 weight.1 in
     let left = length-drop 3 fields in
     subst (λ (z : NamedBid). IsNamedBid n z) same (record {
-      name = name_ok (field_at fields 1) name.0 name.1;
+      name = (name_read (field_at fields 1) name.0 name.1).1;
       bid = record {
         offers = record { size = omega (arith, size, each.0, left); each = each.1; some = holds_ok (offers_some values.0) code.Nothing some.0 some.1 };
         weight = w.0;

@@ -1,27 +1,26 @@
 -- An auction that is read keeps what every auction keeps, and the limits of its format.
-use Rattle.std.proofs.Common.{◌≡◌, ◌<◌, ◌≤◌, ◌+◌, ◌||◌, ◌&&◌, ◌==◌, ℕ, zero, suc, ℤ, pos, List, [], ◌∷◌, ◌++◌, length, map, drop, filter, sym, ◌∙◌, ap, arith, refl, subst, Option, Some, None, Ok, Err, Result, Bool, true, false, not, cond, inl, inr, All, true≢false, nat_lt}
+use Rattle.std.proofs.Common.{◌≡◌, ◌<◌, ◌≤◌, ◌+◌, ◌||◌, ◌&&◌, ℕ, ℤ, pos, List, [], ◌∷◌, ◌++◌, length, map, drop, filter, sym, ◌∙◌, ap, arith, refl, subst, Option, Some, None, Ok, Err, Result, Bool, true, false, not, cond, inl, inr, All, true≢false, nat_lt}
 use Rattle.std.specs.Prelude.{codes, nat_le, count_by}
-use Rattle.std.specs.List.{AllPass, list_any}
+use Rattle.std.specs.List.{AllPass}
 use Rattle.std.specs.Str.{bytes_eq}
 use Rattle.std.proofs.lemmas.Bool.{cases_Bool, false_from_ne_true}
 use Rattle.std.proofs.lemmas.Bool.Decides.{nat_tests}
 use Rattle.std.proofs.lemmas.List.{length-append, length-drop, length-map, map-append}
 use Rattle.std.proofs.lemmas.List.Elements.{All-cons, All-filter, All-head, All-map, All-nil, All-push, All-tail, All-weaker}
 use Rattle.mix_bids.specs.Bids.{AreBids, Book, IsBid}
-use Rattle.mix_bids.specs.declared.bid.Bid.{Bid}
-use Rattle.mix_text.specs.Rows.{RestText, RowText}
+use Rattle.mix_text.specs.Rows.{RowText}
 use Rattle.mix_text.specs.Spelling.{is_name, name_of}
 use Rattle.mix_text.specs.Names.{AreNames, different, is_among}
-use Rattle.mix_num.specs.Sellers.{AreAmounts, IsAmount}
+use Rattle.mix_num.specs.Sellers.{AreAmounts}
 use Rattle.mix_text.specs.Auctions.{IsAuction, IsBook}
-use Rattle.mix_text.specs.Reading.{◌>>=◌, Limits, NamedBid, begins, bid_row_of, bidders_of, bids_from, bids_under, each_of, end_of, goods_at, goods_form_of, goods_of, header_of, holds, is_negative, limit_of, list_limit_of, mix_one, ReadsBids, names_after, names_of, number_in, numbers_of, past_goods, placed, read_at, reading_of, row_at, unless_past}
+use Rattle.mix_text.specs.Reading.{◌>>=◌, NamedBid, begins, bid_row_of, bidders_of, bids_from, bids_under, end_of, goods_at, goods_form_of, goods_of, holds, is_negative, limit_of, mix_one, ReadsBids, names_after, names_of, numbers_of, past_goods, placed, read_at, row_at, unless_past}
 use Rattle.mix_text.specs.declared.faults.Code.{Code}
 use Rattle.mix_text.specs.declared.faults.Code.TheVariants as code
 use Rattle.mix_text.specs.declared.faults.What.{What}
 use Rattle.mix_text.specs.declared.faults.What.TheVariants as what
-use Rattle.mix_text.specs.declared.faults.TextError.{TextError}
-use Rattle.mix_text.proofs.Gathering.{Unlike, bids_under_none, bids_under_snoc, bids_under_some, bytes_eq_refl, different_same, different_snoc, different_unlike, among_different, same_bytes, unlike}
-use Rattle.mix_text.proofs.Sound.{IsNamedBid, bid_row_ok, each_ok, equal_numbers, holds_ok, name_ok, number_ok, then_ok}
+use Rattle.mix_text.proofs.Gathering.{Unlike, bids_under_snoc, bids_under_some, bytes_eq_refl, different_same, different_snoc, different_unlike, among_different, same_bytes, unlike}
+use Rattle.mix_text.proofs.Sound.{IsNamedBid, bid_row_ok, holds_ok, numbers_ok, then_ok}
+use Rattle.mix_text.proofs.Spellings.{name_read}
 
 placed_ok : {X : Type 0} (number : ℕ) (r : Result X Code) (x : X) → placed number r ≡ Ok x → r ≡ Ok x
 placed_ok number (Ok y) x e = let same : y ≡ x = cc e in ap (λ z. Ok z) same
@@ -59,7 +58,7 @@ names_after_ok seen (field ∷ rest) names p e =
     let a = then_ok (name_of field) (λ name. holds (not (is_among name seen)) code.Repeated >>= λ _. names_after (seen ++ (name ∷ [])) rest) names e in
     let b = then_ok (holds (not (is_among a.0 seen)) code.Repeated) (λ _. names_after (seen ++ (a.0 ∷ [])) rest) names a.2 in
     let new = not_true_is (is_among a.0 seen) (holds_ok (not (is_among a.0 seen)) code.Repeated b.0 b.1) in
-    let r = names_after_ok (seen ++ (a.0 ∷ [])) rest names (record { form = All-push (λ x. is_name x ≡ true) seen a.0 p.form (name_ok field a.0 a.1); apart = unlike_snoc seen a.0 p.apart new }) b.2 in
+    let r = names_after_ok (seen ++ (a.0 ∷ [])) rest names (record { form = All-push (λ x. is_name x ≡ true) seen a.0 p.form (name_read field a.0 a.1).1; apart = unlike_snoc seen a.0 p.apart new }) b.2 in
     (r.0, omega (arith, r.1, length-append seen (a.0 ∷ [])))
   where
     not_true_is : (t : Bool) → not t ≡ true → t ≡ false
@@ -97,17 +96,6 @@ goods_ok row names e =
     let r = names_after_ok [] (drop 1 row.fields) a.0 (record { form = All-nil (λ x. is_name x ≡ true); apart = tt }) f.2 in
     let few = not_past (length a.0) what.Goods (within_limit row.number (past_goods mix_one a.0) b.0 b.1) in
     subst AreGoods same (record { some = omega (arith, r.1, length-drop 1 row.fields); few = few; names = are_names a.0 r.0 })
-
--- ---- numbers
-
-pub amounts_ok : (word : List ℕ) (n : ℕ) (fields : List (List ℕ)) (xs : List ℤ) → numbers_of word n (pos 0) (pos 1000000) fields ≡ Ok xs → AreAmounts n xs
-unfolding numbers_of
-amounts_ok word n fields xs e =
-    let a = then_ok (holds (begins fields word) code.Place) _ xs e in
-    let b = then_ok (holds (length fields == n + 1) code.Fields) _ xs a.2 in
-    let size = equal_numbers (length fields) (n + 1) (holds_ok (length fields == n + 1) code.Fields b.0 b.1) in
-    let r = each_ok (number_in (pos 0) (pos 1000000)) IsAmount (λ field x. number_ok (pos 0) (pos 1000000) field x) (drop 1 fields) xs b.2 in
-    (omega (arith, r.0, size, length-drop 1 fields), r.1)
 
 -- ---- bids
 
@@ -213,7 +201,7 @@ none_yet n = record { each = All-nil (IsNamedBid n); names = omega arith; under 
 amounts_at : (rows : List RowText) (k : ℕ) (word : List ℕ) (n : ℕ) (xs : List ℤ) → read_at rows k (numbers_of word n (pos 0) (pos 1000000)) ≡ Ok xs → AreAmounts n xs
 amounts_at rows k word n xs e =
     let r = then_ok (row_at rows k) (λ row. placed row.number (numbers_of word n (pos 0) (pos 1000000) row.fields)) xs e in
-    amounts_ok word n r.0.fields xs (placed_ok r.0.number (numbers_of word n (pos 0) (pos 1000000) r.0.fields) xs r.2)
+    numbers_ok (pos 0) (pos 1000000) word n r.0.fields xs (placed_ok r.0.number (numbers_of word n (pos 0) (pos 1000000) r.0.fields) xs r.2)
 
 -- the bidders of few bids make an auction with goods and amounts
 pub made : (goods : List (List ℕ)) (supply reserve : List ℤ) (bids : List NamedBid) → AreGoods goods → AreAmounts (length goods) supply → AreAmounts (length goods) reserve → AreFew (length goods) bids

@@ -1,14 +1,13 @@
 -- Reading one row more of the bids: what it makes of the reading from there on.
-use Rattle.std.proofs.Common.{◌≡◌, ◌<◌, ◌≤◌, ◌+◌, ℕ, suc, List, [], ◌∷◌, ◌++◌, length, drop, get_or, refl, sym, ap, ◌∙◌, arith, Option, Some, None, Bool, true, false, Ok, Err, Result, add-one}
+use Rattle.std.proofs.Common.{◌≡◌, ◌<◌, ◌≤◌, ◌+◌, ℕ, suc, List, [], ◌∷◌, ◌++◌, length, drop, get_or, refl, sym, ap, ◌∙◌, Some, None, true, false, Ok, Err, add-one}
 use Rattle.std.specs.Prelude.{codes}
 use Rattle.std.proofs.Math.Seq.{drop-cons}
 use Rattle.std.proofs.lemmas.List.{drop_all}
 use Rattle.mix_text.specs.Rows.{RowText}
-use Rattle.mix_text.specs.Reading.{◌>>=◌, Limits, NamedBid, begins, bid_row_of, bids_from, end_of, ends_early, limit_of, placed, unless_past}
+use Rattle.mix_text.specs.Reading.{Limits, NamedBid, begins, bid_row_of, bids_from, end_of, limit_of}
 use Rattle.mix_text.specs.declared.faults.Code.{Code}
 use Rattle.mix_text.specs.declared.faults.Code.TheVariants as code
 use Rattle.mix_text.specs.declared.faults.What.{What}
-use Rattle.mix_text.specs.declared.faults.TextError.{TextError}
 use Rattle.mix_text.specs.declared.faults.TextError.TheVariants as error
 
 pub rows_from : (rows : List RowText) (k : ℕ) (row : RowText) → k < length rows → row ≡ get_or rows k row → drop k rows ≡ row ∷ drop (k + 1) rows

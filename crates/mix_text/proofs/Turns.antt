@@ -1,11 +1,8 @@
 -- Fields read in turn: what comes of those that are left, given what came of those before.
-use Rattle.std.proofs.Common.{◌≡◌, ◌<◌, ◌≤◌, ◌+◌, ℕ, suc, List, [], ◌∷◌, ◌++◌, length, drop, get_or, refl, sym, ap, ◌∙◌, append_assoc, Option, Some, None, add-one, Ok, Err, Result, append-nil, ◌||◌, Bool, true, false}
+use Rattle.std.proofs.Common.{◌≡◌, ◌<◌, ◌≤◌, ◌+◌, ℕ, suc, List, [], ◌∷◌, ◌++◌, length, drop, get_or, refl, sym, ap, append_assoc, add-one, Ok, Err, Result, append-nil}
 use Rattle.std.proofs.Math.Seq.{drop-cons}
 use Rattle.std.proofs.lemmas.List.{drop_all}
-use Rattle.std.specs.List.{list_any}
-use Rattle.std.specs.Option.{is_some}
 use Rattle.mix_text.specs.declared.faults.Code.{Code}
-use Rattle.mix_bids.specs.Offers.{offers_some}
 use Rattle.mix_text.specs.Reading.{◌>>=◌, each_of}
 
 -- what the fields that are left give, after what came before

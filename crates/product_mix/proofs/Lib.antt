@@ -2,5 +2,4 @@ mod Causes
 mod PrintableWords
 mod PrintedRows
 mod ReadPrices
-mod SoundBidders
 mod Taken

@@ -15,7 +15,7 @@ use mix_num::{Memory, Prices};
 use mix_text::{Auction, Fault, Limit, Page};
 
 // Adds the number of a row to the open row.
-#[tactic(auto, using(crate::proofs::PrintableWords::printable_number))]
+#[tactic(auto, using(mix_text::proofs::PrintedNumbers::decimal_printable))]
 fn add_row_number(page: &mut Page, number: u64) -> Result<(), Memory>
     ensures { OnOk result (page.new ≡ record page.old { fields = page.old.fields ++ decimal number ∷ [] }) }
 {

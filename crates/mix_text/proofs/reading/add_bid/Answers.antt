@@ -1,9 +1,8 @@
-use Rattle.std.proofs.Common.{◌≡◌, ◌∙◌, sym, ap, subst, ℕ, List, ◌++◌, ◌∷◌, [], Some, None, length, Bool, cond}
+use Rattle.std.proofs.Common.{◌≡◌, ◌∙◌, sym, ap, subst, ℕ, [], Some, None, length, cond}
 use Rattle.std.specs.Prelude.{nat_le}
 use Rattle.mix_bids.specs.Bids.{Book, IsBid}
 use Rattle.mix_text.specs.Bidders.{Named, list_at, place_of, with_bid_at}
-use Rattle.mix_text.specs.Reading.{NamedBid, bidders_of, limit_of, list_limit_of, mix_one}
-use Rattle.mix_text.specs.declared.faults.What.{What}
+use Rattle.mix_text.specs.Reading.{NamedBid, bidders_of, list_limit_of, mix_one}
 use Rattle.mix_text.specs.declared.faults.What.TheVariants as what
 use Rattle.mix_text.proofs.Bids.{gathers_more, limit_new, list_there}
 use Rattle.mix_text.proofs.reading.add_bid.Goals as goal

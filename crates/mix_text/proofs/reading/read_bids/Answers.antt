@@ -1,6 +1,6 @@
-use Rattle.std.proofs.Common.{◌≡◌, ◌∙◌, sym, ap, inr, arith, ◌<◌, ◌+◌, ℕ, List, ◌∷◌, ◌++◌, [], length, drop, Ok, Err, Some, None, Result, slice_index_or}
+use Rattle.std.proofs.Common.{◌≡◌, ◌∙◌, sym, ap, inr, arith, ◌<◌, ◌+◌, ℕ, List, ◌∷◌, ◌++◌, [], length, drop, Err, Result, slice_index_or}
 use Rattle.mix_text.specs.Rows.{RowText}
-use Rattle.mix_text.specs.Reading.{NamedBid, ReadsBids, bidders_of, bids_from, mix_one}
+use Rattle.mix_text.specs.Reading.{NamedBid, bids_from, mix_one}
 use Rattle.mix_text.specs.declared.faults.TextError.{TextError}
 use Rattle.mix_text.specs.declared.faults.TextError.TheVariants as error
 use Rattle.mix_text.proofs.Sound.{bid_row_ok}

@@ -1,4 +1,4 @@
-use Rattle.std.proofs.Common.{◌≡◌, ◌∙◌, ap, arith, Result}
+use Rattle.std.proofs.Common.{◌∙◌, ap, arith, Result}
 use Rattle.mix_text.specs.Rows.{RowText}
 use Rattle.mix_text.specs.Reading.{◌>>=◌, goods_at, mix_one}
 use Rattle.mix_text.specs.declared.faults.TextError.{TextError}

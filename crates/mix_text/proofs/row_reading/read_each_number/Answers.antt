@@ -1,4 +1,4 @@
-use Rattle.std.proofs.Common.{◌≡◌, ◌∙◌, sym, arith, ◌<◌, length, to_z-of_z}
+use Rattle.std.proofs.Common.{◌∙◌, sym, arith, ◌<◌, length, to_z-of_z}
 use Rattle.mix_text.specs.Reading.{number_in}
 use Rattle.mix_text.proofs.Turns.{wrong_turn}
 use Rattle.mix_text.proofs.row_reading.read_each_number.Goals as goal
