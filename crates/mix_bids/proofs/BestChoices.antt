@@ -1,14 +1,11 @@
 -- The best choices of a bid: which ones they are, and that there is one.
-use Rattle.std.proofs.Common.{◌≡◌, ℕ, ◌≤◌, ◌<◌, ◌↔◌, true, false, ℤ, ◌-ℤ◌, refl, arith, sym, ap, ◌∙◌, IsTrue, int_eq, Option, Some, None, length}
-use Rattle.std.proofs.lemmas.Int.{ints}
+use Rattle.std.proofs.Common.{◌≡◌, ℕ, ◌≤◌, ◌<◌, true, false, ℤ, ◌-ℤ◌, refl, arith, sym, ap, ◌∙◌, Option, Some, None, length}
 use Rattle.std.proofs.lemmas.Bool.{false≢true}
 use Rattle.mix_num.specs.Vectors.{Vector}
+use Rattle.mix_num.proofs.Equalities.{int_eq_is}
 use Rattle.mix_bids.specs.Offers.{Offers, offer, gain, leaves, best}
 use Rattle.mix_bids.proofs.Cases.{not_true}
 use Rattle.mix_bids.proofs.Gains.{gain_is, offered_within}
-
-pub int_eq_is : (a b : ℤ) → IsTrue (int_eq a b) ↔ (a ≡ b)
-int_eq_is a b = grind (arith, ints)
 
 -- an offer that leaves the number passes the test
 pub leaves_offer : (o : Option ℤ) (c g v : ℤ) → o ≡ Some v → v -ℤ c ≡ g → leaves o c g ≡ true

@@ -10,7 +10,7 @@ use Rattle.mix_bids.specs.declared.bid.Bid.{Bid}
 use Rattle.mix_bids.proofs.Cases.{not_true, same_bool}
 use Rattle.mix_bids.proofs.Sets.{all_to-true, all_to-intro}
 use Rattle.mix_bids.proofs.Gains.{offered_within}
-use Rattle.mix_bids.proofs.BestChoices.{int_eq_is}
+use Rattle.mix_num.proofs.Equalities.{int_eq_is}
 use Rattle.mix_bids.proofs.Lengths.{AreOver, first_over, rest_over}
 use Rattle.mix_facets.specs.Leads.{lead, lead_of}
 use Rattle.mix_facets.specs.Planes.{is_lead, has_lead, level_bids}

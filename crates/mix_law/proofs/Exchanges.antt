@@ -4,6 +4,7 @@ use Rattle.std.proofs.lemmas.Int.{ints, clamps}
 use Rattle.std.proofs.lemmas.Bool.{false≢true}
 use Rattle.std.specs.Int.{int_min, int_max}
 use Rattle.mix_num.specs.Vectors.{Vector, Choices, bit, plus, minus, shifted, both, either}
+use Rattle.mix_num.proofs.Equalities.{int_eq_is}
 use Rattle.mix_law.specs.Members.{KeepsLocal, IsWhereGreatest, IsLocallyLeast}
 use Rattle.mix_law.proofs.Lattice.{lattice, lesser, greater, over, over_is}
 
@@ -50,9 +51,6 @@ module _ {n : ℕ} {f : Vector → ℤ} {w : ℤ} (c : KeepsLocal n f w) where
 -- x - y is at most m
 abbrev pub AtMost : ℕ → Vector → Vector → ℤ → Type 0
 AtMost n x y m = (k : ℕ) → k ≤ n → (x k -ℤ y k) ≤ℤ m
-
-pub int_eq_is : (a b : ℤ) → IsTrue (int_eq a b) ↔ (a ≡ b)
-int_eq_is a b = grind (arith, ints)
 
 -- the choices at which x - y is m
 abbrev pub set_at : Vector → Vector → ℤ → Choices

@@ -4,7 +4,8 @@ use Rattle.std.proofs.lemmas.Int.{ints}
 use Rattle.std.proofs.lemmas.Bool.{false≢true}
 use Rattle.mix_num.specs.Vectors.{Vector, Choices, bit, plus, minus, ray}
 use Rattle.mix_law.specs.Members.{KeepsLocal, IsWhereGreatest}
-use Rattle.mix_law.proofs.Exchanges.{exchange_at, bound, int_eq_is}
+use Rattle.mix_num.proofs.Equalities.{int_eq_is}
+use Rattle.mix_law.proofs.Exchanges.{exchange_at, bound}
 
 -- z + c and z - c
 abbrev pub up_by : Vector → Vector → Vector

@@ -13,7 +13,7 @@ use Rattle.mix_text.specs.Bidders.{list_at, name_at, place_of, with_bid_at}
 use Rattle.mix_text.specs.Names.{different, is_among}
 use Rattle.mix_text.specs.Reading.{Limits, NamedBid, bidders_of, bids_under, limit_of, list_limit_of, names_of}
 use Rattle.mix_text.specs.declared.faults.What.TheVariants as what
-use Rattle.mix_text.proofs.Entries.{position-map}
+use Rattle.mix_text.proofs.Entries.{list_any-absent, position-map}
 use Rattle.mix_text.proofs.Gathering.{among_different, bids_under_none, bids_under_snoc, bytes_eq_refl, different_snoc, different_unlike, map_at, map_other, same_bytes}
 
 any_before_end : {X : Type 0} (p : X → Bool) (xs : List X) → list_any p xs ≡ nat_lt (prefix_len (λ x. not (p x)) xs) (length xs)
@@ -21,12 +21,6 @@ any_before_end p [] = refl
 any_before_end p (x ∷ xs) = elim (cases_Bool (p x)) [
   | inl t ↦ rw t (grind (arith, nat_tests))
   | inr f ↦ (let h = any_before_end p xs in rw f (grind (arith, nat_tests, h)))
-]
-
-position_none : {X : Type 0} (p : X → Bool) (xs : List X) → position p xs ≡ None → list_any p xs ≡ false
-position_none p xs e = elim (cases_Bool (list_any p xs)) [
-  | inl t ↦ absurd (let q = rw (sym (any_before_end p xs) ∙ t) at e in cc)
-  | inr f ↦ f
 ]
 
 position_some : {X : Type 0} (p : X → Bool) (xs : List X) (k : ℕ) → position p xs ≡ Some k → list_any p xs ≡ true
@@ -44,7 +38,7 @@ place_among : (n : ℕ) (bids : List NamedBid) (name : List ℕ) → place_of na
 place_among n bids name = position-map (entry n bids) (λ b. bytes_eq name b.0) (different (names_of bids))
 
 absent : (n : ℕ) (bids : List NamedBid) (name : List ℕ) → place_of name (bidders_of n bids) ≡ None → is_among name (different (names_of bids)) ≡ false
-absent n bids name e = position_none (bytes_eq name) (different (names_of bids)) (sym (place_among n bids name) ∙ e)
+absent n bids name e = list_any-absent (bytes_eq name) (different (names_of bids)) (sym (place_among n bids name) ∙ e)
 
 present : (n : ℕ) (bids : List NamedBid) (name : List ℕ) (k : ℕ) → place_of name (bidders_of n bids) ≡ Some k → is_among name (names_of bids) ≡ true
 present n bids name k e = sym (among_different name (names_of bids)) ∙ position_some (bytes_eq name) (different (names_of bids)) k (sym (place_among n bids name) ∙ e)

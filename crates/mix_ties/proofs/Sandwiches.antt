@@ -1,6 +1,6 @@
 -- A vector between a submodular and a supermodular table.
 use Rattle.std.proofs.Common.{◌≡◌, ℕ, zero, suc, true, false, ℤ, ◌-ℤ◌, ◌≤ℤ◌, refl, ◌∙◌, arith, ◌⊎◌, inl, inr}
-use Rattle.std.specs.Int.{int_min, int_max}
+use Rattle.std.specs.Int.{int_min}
 use Rattle.std.proofs.lemmas.Int.{ints, clamps}
 use Rattle.mix_ties.proofs.Steps.{below_step, max_step, min_step}
 use Rattle.mix_ties.specs.Peeled.{Amounts, IsSandwich, IsSubmodular, IsSupermodular, LiesBetween, Subset, amount_in, cut, greedy, least, lift, meet, most, none, union}

@@ -3,13 +3,13 @@ use Rattle.std.proofs.Common.{◌≡◌, ℕ, suc, ◌≤◌, List, [], ◌∷�
 use Rattle.std.proofs.lemmas.Int.{ints}
 use Rattle.std.proofs.lemmas.Bool.{false≢true}
 use Rattle.mix_num.specs.Vectors.{Vector}
+use Rattle.mix_num.proofs.Equalities.{int_eq_is}
 use Rattle.mix_num.proofs.Products.{*ℤ-difference}
 use Rattle.mix_num.proofs.Quotients.{below_ceiling, ceiling, ceiling_exact, ceiling_is}
 use Rattle.mix_bids.specs.Offers.{Offers, best, pair, same_set}
 use Rattle.mix_bids.specs.Bids.{NoneNegative, facet_weight, total_weight}
 use Rattle.mix_bids.specs.Convexity.{bid_at, offers_at, utility_at}
 use Rattle.mix_bids.specs.declared.bid.Bid.{Bid}
-use Rattle.mix_bids.proofs.BestChoices.{int_eq_is}
 use Rattle.mix_bids.proofs.Cases.{by_test, not_true, same_bool}
 use Rattle.mix_bids.proofs.Lengths.{AreOver, first_over, rest_over}
 use Rattle.mix_bids.proofs.Multiples.{length-offers_at, offered_at, offered_once, over_at, total_at}
