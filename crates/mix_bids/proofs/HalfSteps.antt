@@ -1,5 +1,5 @@
 -- Half way between prices and the same prices with a set raised by one: there the indirect utility is the mean of the two.
-use Rattle.std.proofs.Common.{◌≡◌, ℕ, suc, ◌*◌, ◌≤◌, List, [], ◌∷◌, ℤ, pos, ◌+ℤ◌, ◌-ℤ◌, ◌*ℤ◌, arith, ap, Some, length}
+use Rattle.std.proofs.Common.{◌≡◌, ℕ, suc, ◌*◌, ◌≤◌, true, List, [], ◌∷◌, ℤ, pos, ◌+ℤ◌, ◌-ℤ◌, ◌*ℤ◌, arith, sym, ap, ◌∙◌, Some, length}
 use Rattle.std.proofs.lemmas.Int.{ints}
 use Rattle.mix_num.specs.Vectors.{Vector, Choices, bit, plus}
 use Rattle.mix_num.proofs.Products.{*ℤ-sum}
@@ -22,25 +22,19 @@ record IsBestAtBoth (vs : Offers) (x y : Vector) : Type 0 where
   pub first : value -ℤ x place ≡ gain vs x
   pub second : value -ℤ y place ≡ gain vs y
 
+best_at_both : (n : ℕ) (vs : Offers) (x : Vector) (s : Choices) → length vs ≤ n → (k : ℕ) → best vs x k ≡ true → s k ≡ within (suc n) (best vs x) s → IsBestAtBoth vs x (plus x s)
+best_at_both n vs x s l k is same =
+    let b = leaves-true (offer vs k) (x k) (gain vs x) is in
+    let fell = gain_falls n vs x s l in
+    let moved = ap bit same in
+    let left = b.leaves in
+    record { place = k; value = b.value; offered = b.offered; first = b.leaves; second = omega (arith, ints) }
+
 -- some best choice stays one where a set is raised: one outside the set, if there is one, else any
 still_best : (n : ℕ) (vs : Offers) (x : Vector) (s : Choices) → length vs ≤ n → IsBestAtBoth vs x (plus x s)
-still_best n vs x s l =
-    let f = gain_falls n vs x s l in
-    by_test (within (suc n) (best vs x) s)
-    (λ h.
-    let r = some_best vs x in
-    let b = leaves-true (offer vs r.0) (x r.0) (gain vs x) r.2 in
-    let inside = ap bit (within-true (suc n) (best vs x) s h r.0 (omega (arith, r.1)) r.2) in
-    let fell = ap bit h in
-    let left = b.leaves in
-    record { place = r.0; value = b.value; offered = b.offered; first = b.leaves; second = omega (arith, ints) })
-    (λ h.
-    let r = within-false (suc n) (best vs x) s h in
-    let b = leaves-true (offer vs r.0) (x r.0) (gain vs x) r.2 in
-    let outside = ap bit r.3 in
-    let stayed = ap bit h in
-    let left = b.leaves in
-    record { place = r.0; value = b.value; offered = b.offered; first = b.leaves; second = omega (arith, ints) })
+still_best n vs x s l = by_test (within (suc n) (best vs x) s)
+    (λ h. let r = some_best vs x in best_at_both n vs x s l r.0 r.2 (within-true (suc n) (best vs x) s h r.0 (omega (arith, r.1)) r.2 ∙ sym h))
+    (λ h. let r = within-false (suc n) (best vs x) s h in best_at_both n vs x s l r.0 r.2 (r.3 ∙ sym h))
 
 double : (d : ℕ) (v : ℤ) → pos (2 * d) *ℤ v ≡ (pos d *ℤ v) +ℤ (pos d *ℤ v)
 double d v = omega (arith, ints)

@@ -74,7 +74,7 @@ multiplied_gain e d vs x =
           ∙ ap (λ z. pos e *ℤ z) r.reached;
     }
 
--- e times as high at the scale e d, where prices are, is e times as much
+-- where prices and scale are e times as great, so is the gain
 pub gain-times : (e d : ℕ) (vs : Offers) (x : Vector) → gain (offers_at (e * d) vs) (times e x) ≡ pos e *ℤ gain (offers_at d vs) x
 gain-times e d vs x = gain_one (offers_at (e * d) vs) (times e x) _ _ (gain_is _ _) (multiplied_gain e d vs x)
 

@@ -3,11 +3,12 @@ use Rattle.std.proofs.Common.{◌≡◌, ◌↔◌, ℕ, zero, suc, ◌/◌, ◌
 use Rattle.std.proofs.lemmas.Int.{ints, by_lt_z}
 use Rattle.mix_num.proofs.Products.{*ℤ-difference, product_grows}
 
--- c is t / d rounded up
+-- c is the least whole number that is not below t / d
 pub record IsCeiling (d : ℕ) (t c : ℤ) : Type 0 where
   pub low : (pos d *ℤ (c -ℤ pos 1)) <ℤ t
   pub high : t ≤ℤ (pos d *ℤ c)
 
+-- t / d rounded up
 abbrev pub ceiling : ℕ → ℤ → ℤ
 ceiling d (pos zero) = pos 0
 ceiling d (pos (suc n)) = pos (suc (n / d))

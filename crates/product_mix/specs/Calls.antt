@@ -75,7 +75,7 @@ IsUnmet Prices text = HasNonconvexList text
 abbrev pub HasNonconvex : Option Command → Option (List ℕ) → Type 0
 HasNonconvex command text = IsSomeAnd command (λ c. IfSome text (λ bytes. IsUnmet c bytes))
 
--- a text is as the command wants it, and each bidder's list is convex, where the command needs convex lists
+-- where the command needs convex lists, a text is as it wants it, and each bidder's list is convex
 abbrev pub IsMet : Command → List ℕ → Type 0
 IsMet Utility text = Unit {0}
 IsMet Validate text = HasConvexLists text
