@@ -4,3 +4,10 @@ pub mod Equalities
 pub mod Masks
 pub mod UnitMoves
 pub mod Additions
+pub mod Costs
+pub mod Orders
+pub mod PairSums
+pub mod PairRules
+pub mod Cleared
+pub mod SubsetSums
+pub mod ChoiceTurns

@@ -1,6 +1,6 @@
 -- Products of whole numbers: over sums and differences, and by a factor that isn't negative.
-use Rattle.std.proofs.Common.{◌≡◌, ◌∙◌, ℕ, zero, suc, ◌+◌, ◌*◌, ℤ, pos, negsuc, ◌+ℤ◌, ◌-ℤ◌, ◌*ℤ◌, ◌≤ℤ◌, arith, ap, sym}
-use Rattle.std.proofs.lemmas.Int.{ints}
+use Rattle.std.proofs.Common.{◌≡◌, ◌∙◌, ℕ, zero, suc, ◌+◌, ◌*◌, ◌≤◌, ℤ, pos, negsuc, ◌+ℤ◌, ◌-ℤ◌, ◌*ℤ◌, ◌≤ℤ◌, ◌<ℤ◌, arith, ap, sym}
+use Rattle.std.proofs.lemmas.Int.{ints, by_lt_z}
 use Rattle.std.proofs.Math.IntN.{*ℤ_comm, pos-*ℤ-pos, zero-*ℤ}
 use borrow.Author.Differences.{up, down, sum_is_lem}
 
@@ -49,3 +49,17 @@ pub *ℤ-multiple : (a : ℤ) (d : ℕ) (b : ℤ) → a *ℤ (pos d *ℤ b) ≡ 
 -- a multiple of a multiple
 pub multiple-multiple : (e d : ℕ) (a : ℤ) → pos (e * d) *ℤ a ≡ pos e *ℤ (pos d *ℤ a)
 multiple-multiple e d a = ap (λ z. z *ℤ a) (sym (pos-*ℤ-pos e d)) ∙ *ℤ_comm (pos e *ℤ pos d) a ∙ *ℤ-multiple a e (pos d) ∙ ap (λ z. pos e *ℤ z) (*ℤ_comm a (pos d))
+
+-- a factor of at least 1 may be left out of an order, and of an equation
+pub multiple_below : (d : ℕ) (a b : ℤ) → 1 ≤ d → (pos d *ℤ a) <ℤ (pos d *ℤ b) → a <ℤ b
+multiple_below d a b some h = by_lt_z a b (λ q. q) (λ q. let e = product_grows (pos d) b a (omega (arith, ints)) q in absurd (omega (arith, ints)))
+
+pub multiple_same : (d : ℕ) (a b : ℤ) → 1 ≤ d → pos d *ℤ a ≡ pos d *ℤ b → a ≡ b
+multiple_same d a b some h =
+    by_lt_z a b (λ q. absurd (apart a b q h)) (λ q. by_lt_z b a (λ r. absurd (apart b a r (sym h))) (λ r. omega (arith, ints)))
+  where
+    apart : (a b : ℤ) → a <ℤ b → pos d *ℤ a ≡ pos d *ℤ b → ⊥
+    apart a b q h =
+        let g = product_grows (pos d) (a +ℤ pos 1) b (omega (arith, ints)) (omega (arith, ints)) in
+        let e = *ℤ-sum (pos d) a (pos 1) in
+        omega (arith, ints)

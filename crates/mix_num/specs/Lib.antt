@@ -4,3 +4,8 @@ pub mod Moves
 pub mod Sums
 pub mod Tables
 pub mod Sellers
+pub mod Shares
+pub mod Returns
+pub mod Orders
+pub mod Pairs
+pub mod Subsets

@@ -3,13 +3,17 @@
 
 mod moves;
 mod order;
+mod pair;
 mod set;
+mod set_table;
 mod sums;
 
 use arrayvec::ArrayVec;
 pub use moves::{lower, raise};
 pub use order::lex_cmp;
+pub use pair::{Tight, pair_number};
 pub use set::Set;
+pub use set_table::SetTable;
 pub use sums::{dot, sum_over};
 
 /// Memory was wanted and not there.

@@ -41,7 +41,7 @@ pub fn dot(prices: &Prices, bundle: &Bundle) -> i64
 }
 
 /// The amount where it counts, and else 0.
-fn counted(counts: bool, amount: i64) -> i64
+pub fn counted(counts: bool, amount: i64) -> i64
     ensures { result ≡ cond counts amount (pos 0) }
 {
     if counts { amount } else { 0 }
