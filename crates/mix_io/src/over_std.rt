@@ -1,8 +1,33 @@
 // A source over any reader, and a sink over any writer.
-ghost use Rattle.std.specs.Prelude.{◌≡◌};
+ghost use Rattle.std.specs.Prelude.{◌≡◌, ◌<◌, ◌↔◌, ◌⊎◌, [], Ok, IsOk, IsOkAnd, IfOk, OnErr};
+ghost use Rattle.mix_io.specs.Causes.{next, HasCause};
 
 use crate::ends::{Failed, Sink, Source};
 use std::io::{Read, Write};
+
+// Hands on an answer, and counts a fault exactly where it is none.
+fn answered<T, E: Drop>(answer: Result<T, E>, faults: &mut u64) -> Result<T, Failed>
+    ensures ok { IsOk result ↔ IsOk answer }
+    ensures value { IfOk result (λ value. answer ≡ Ok value) }
+    ensures cause { HasCause faults.old faults.new result }
+    ensures raised { OnErr result (faults.new ≡ next faults.old) }
+{
+    match answer {
+        Ok(value) => Ok(value),
+        Err(_) => Err(Failed::counted(faults)),
+    }
+}
+
+// The answer to a write, which fails also where it takes nothing of a piece that isn't empty.
+fn some_taken<E: Drop>(answer: Result<usize, E>, piece: &[u8]) -> Result<usize, Failed>
+    ensures ok { IsOk result ↔ IsOkAnd answer (λ count. (0 < count) ⊎ (piece.now ≡ [])) }
+    ensures value { IfOk result (λ count. answer ≡ Ok count) }
+{
+    match answer {
+        Ok(count) if count > 0 || piece.is_empty() => Ok(count),
+        _ => Err(Failed),
+    }
+}
 
 /// A source over a reader. It tells the bytes that the reader tells, and counts each `Err`, an interrupted call among
 /// them.
@@ -28,10 +53,7 @@ impl<R: Read> Source for StdSource<R> {
     ghost faults = { λ source. source.faults };
 
     fn read(&mut self, buf: &mut [u8]) -> Result<usize, Failed> {
-        match self.inner.read(buf) {
-            Ok(count) => Ok(count),
-            Err(_) => Err(Failed::counted(&mut self.faults)),
-        }
+        answered(self.inner.read(buf), &mut self.faults)
     }
 }
 
@@ -59,17 +81,11 @@ impl<W: Write> Sink for StdSink<W> {
     ghost faults = { λ sink. sink.faults };
 
     fn write(&mut self, piece: &[u8]) -> Result<usize, Failed> {
-        match self.inner.write(piece) {
-            Ok(count) if count > 0 || piece.is_empty() => Ok(count),
-            _ => Err(Failed::counted(&mut self.faults)),
-        }
+        answered(some_taken(self.inner.write(piece), piece), &mut self.faults)
     }
 
     fn flush(&mut self) -> Result<(), Failed> {
-        match self.inner.flush() {
-            Ok(()) => Ok(()),
-            Err(_) => Err(Failed::counted(&mut self.faults)),
-        }
+        answered(self.inner.flush(), &mut self.faults)
     }
 }
 
@@ -113,6 +129,44 @@ mod tests {
         fn flush(&mut self) -> io::Result<()> {
             Err(io::Error::from(ErrorKind::BrokenPipe))
         }
+    }
+
+    // Gives or takes at most so many bytes a call, and never fails.
+    #[derive(Drop)]
+    struct Willing(usize);
+
+    impl Read for Willing {
+        fn read(&mut self, buf: &mut [u8]) -> io::Result<usize> {
+            Ok(buf.len().min(self.0))
+        }
+    }
+
+    impl Write for Willing {
+        fn write(&mut self, piece: &[u8]) -> io::Result<usize> {
+            Ok(piece.len().min(self.0))
+        }
+
+        fn flush(&mut self) -> io::Result<()> {
+            Ok(())
+        }
+    }
+
+    #[test]
+    fn no_fault_is_counted_where_none_came(rt: HostRuntime) -> Result<(), Fail> {
+        let sizes = [1, 64, 4_095, 4_096, 100_000];
+        for most in sizes {
+            let mut source = StdSource::new(Willing(most));
+            let mut sink = StdSink::new(Willing(most));
+            for size in sizes {
+                let mut bytes = vec![in rt.alloc(); 0; size]?;
+                assert_eq!(rt; source.read(&mut bytes), Ok(size.min(most)));
+                assert_eq!(rt; sink.write(&bytes), Ok(size.min(most)));
+                assert_eq!(rt; sink.flush(), Ok(()));
+            }
+            assert_eq!(rt; source.faults, 0, "{most} bytes a call");
+            assert_eq!(rt; sink.faults, 0, "{most} bytes a call");
+        }
+        Ok(())
     }
 
     #[test]
