@@ -1,12 +1,19 @@
--- Sets compared by their numbers: the same set, a set in another, a set that meets another.
-use Rattle.std.proofs.Common.{arith, ap, ◌∙◌, sym, ◌≡◌, ◌^◌, ◌<◌, ◌≤◌, eqb, ltb, not, true, false, ℕ, bit_and, w16}
+-- Numbers compared by their bits, and sets by their numbers: the same set, a set in another, a set that meets another.
+use Rattle.std.proofs.Common.{arith, ap, ◌∙◌, sym, ◌≡◌, ◌^◌, ◌<◌, ◌≤◌, eqb, ltb, not, true, false, ℕ, ℤ, bit_and, int_eq, of_z, to_z, w16, w64}
 use Rattle.std.proofs.lemmas.Bool.{false≢true, eqb-true, eqb-false, eq-eqb, ltb-true, ltb-false}
 use Rattle.std.proofs.lemmas.Nat.Bits.{bit_at-zero, bit_at_and, bit_at_not, bit_at-lt, bit_at_above, same_from_bits}
 use Rattle.std.specs.Int.{bit_at, bit_not}
 use Rattle.mix_num.specs.Vectors.{members, outside, Choices}
+use Rattle.mix_num.proofs.Equalities.{int_eq_is}
 use Rattle.mix_bids.specs.Offers.{meets, same_set, within}
 use Rattle.mix_bids.proofs.Cases.{by_test, not_true, same_bool}
 use Rattle.mix_bids.proofs.Sets.{within-intro, within-true, same_set-intro, same_set-true}
+
+-- two numbers are the same exactly where their bits are
+pub same_number : (a b : ℤ) → to_z w64 (of_z w64 a) ≡ a → to_z w64 (of_z w64 b) ≡ b → eqb (of_z w64 a) (of_z w64 b) ≡ int_eq (to_z w64 (of_z w64 a)) b
+same_number a b e f = same_bool _ _
+    (λ h. (int_eq_is (to_z w64 (of_z w64 a)) b).1 (ap (to_z w64) (eqb-true (of_z w64 a) (of_z w64 b) h) ∙ f))
+    (λ h. eq-eqb (of_z w64 a) (of_z w64 b) (ap (of_z w64) (sym e ∙ (int_eq_is (to_z w64 (of_z w64 a)) b).0 h)))
 
 -- a member is a bit
 member_bit : (n k : ℕ) → members n k ≡ true → bit_at n k ≡ 1

@@ -1,17 +1,22 @@
 mod Bits
 mod Comparisons
 mod Loops
+mod MoreOffers
 pub mod BestChoices
+pub mod BestMultiples
 pub mod Cases
+pub mod FacetsAtPrices
 pub mod Falls
 pub mod Far
 pub mod Gains
 pub mod HalfSteps
 pub mod Lengths
 pub mod Locals
+pub mod LongRaises
 pub mod Multiples
 pub mod Near
 pub mod Pairs
 pub mod Products
 pub mod Sets
+pub mod Tallies
 pub mod Weights

@@ -1,35 +1,12 @@
--- One turn of a loop over the offers of a bid or the bids of a list: what is gathered so far and what is still to come make up the whole.
+-- One turn of a loop over the bids of a list: what is gathered so far and what is still to come make up the whole.
 use Rattle.std.proofs.Common.{◌≡◌, ℕ, zero, suc, ◌+◌, ◌-◌, ◌<◌, ◌≤◌, ◌≤ℤ◌, drop_of_length-le, Bool, cond, List, [], ◌∷◌, ℤ, pos, ◌+ℤ◌, ◌*ℤ◌, refl, arith, sym, ap, ap₂, ◌∙◌, subst, Option, Some, None, get_or, length, drop, drop-cons, add-one}
 use Rattle.std.proofs.lemmas.Int.{ints, clamps}
 use Rattle.std.proofs.lemmas.List.Elements.{All-same}
 use Rattle.std.specs.Int.{int_max}
-use mathlib.Core.Path.{fun_ext}
 use Rattle.mix_num.specs.Vectors.{Vector}
-use Rattle.mix_bids.specs.Offers.{Offers, offer, later, gain_from, gain, better, IsOffer}
+use Rattle.mix_bids.specs.Offers.{Offers, offer, gain, better, IsOffer}
 use Rattle.mix_bids.specs.Bids.{utility, top_value, total_weight, weight_where, IsBid, AreBids}
 use Rattle.mix_bids.specs.declared.bid.Bid.{Bid}
-
--- the order of two offers doesn't matter
-better_swap : (o p : Option ℤ) (c d g : ℤ) → better o c (better p d g) ≡ better p d (better o c g)
-better_swap None p c d g = refl
-better_swap (Some u) None c d g = refl
-better_swap (Some u) (Some v) c d g = omega (arith, ints, clamps)
-
-gain_better : (vs : Offers) (x : Vector) (o : Option ℤ) (c g : ℤ) → gain_from vs x (better o c g) ≡ better o c (gain_from vs x g)
-gain_better [] x o c g = refl
-gain_better (p ∷ vs) x o c g = ap (better p (x 0)) (gain_better vs (later x) o c g) ∙ better_swap p o (x 0) c (gain_from vs (later x) g)
-
--- the offer at place i, looked at
-pub gain_step : (vs : Offers) (p : List ℤ) (i : ℕ) (g h t c r total : ℤ) → i < length vs → c ≡ get_or p i (pos 0) → h ≡ better (get_or vs i None) c r → r ≡ g → t ≡ h → gain_from (drop i vs) (λ k. get_or p (i + k) (pos 0)) g ≡ total → gain_from (drop (i + 1) vs) (λ k. get_or p ((i + 1) + k) (pos 0)) t ≡ total
-gain_step vs p i g h t c r total l a b d f e =
-    let x : Vector = λ k. get_or p (i + k) (pos 0) in
-    let o = get_or vs i None in
-    let u : gain_from (drop i vs) x g ≡ better o (x 0) (gain_from (drop (suc i) vs) (later x) g) = ap (λ z. gain_from z x g) (drop-cons vs i None l) in
-    let v : (λ k. get_or p ((i + 1) + k) (pos 0)) ≡ later x = fun_ext (λ k. let q : (i + 1) + k ≡ i + suc k = omega arith in ap (λ z. get_or p z (pos 0)) q) in
-    let w : t ≡ better o (x 0) g = f ∙ b ∙ ap₂ (better o) (let q : i ≡ i + 0 = omega arith in a ∙ ap (λ z. get_or p z (pos 0)) q) d in
-    let y = ap₂ (gain_from (drop (i + 1) vs)) v w in
-    let z = ap (λ t. gain_from (drop t vs) (later x) (better o (x 0) g)) (add-one i) in
-    y ∙ z ∙ gain_better (drop (suc i) vs) (later x) o (x 0) g ∙ sym u ∙ e
 
 -- the bid at place k is a bid over the list's goods
 pub bid_at : (n : ℕ) (bs cs : List Bid) (k : ℕ) (b : Bid) → cs ≡ bs → k < length cs → b ≡ get_or cs k b → AreBids n bs → IsBid n b

@@ -85,7 +85,7 @@ utility-times e d (b ∷ bs) x =
     let s = *ℤ-sum (pos e) (b.weight *ℤ gain (offers_at d b.values.items) x) (utility_at bs d x) in
     ap₂ (λ u v. u +ℤ v) g (utility-times e d bs x) ∙ sym s
 
-offers_once : (vs : Offers) → offers_at 1 vs ≡ vs
+pub offers_once : (vs : Offers) → offers_at 1 vs ≡ vs
 offers_once [] = refl
 offers_once (None ∷ vs) = ap (λ z. None ∷ z) (offers_once vs)
 offers_once (Some v ∷ vs) = let e : pos 1 *ℤ v ≡ v = omega (arith, ints) in ap₂ (λ y z. Some y ∷ z) e (offers_once vs)

@@ -1,6 +1,6 @@
 -- Lists of bids: their indirect utility, their total, and the weights of the bids whose best sets pass a test.
-use Rattle.std.specs.Prelude.{◌≢◌, ℕ, suc, ◌≤◌, Bool, cond, List, [], ◌∷◌, ℤ, pos, ◌+ℤ◌, ◌*ℤ◌, ◌≤ℤ◌, All}
-use Rattle.mix_num.specs.Vectors.{Vector, Choices}
+use Rattle.std.specs.Prelude.{◌≡◌, ◌≢◌, ℕ, suc, ◌<◌, ◌≤◌, Bool, cond, List, [], ◌∷◌, ℤ, pos, ◌+ℤ◌, ◌*ℤ◌, ◌≤ℤ◌, length, All}
+use Rattle.mix_num.specs.Vectors.{Vector, Choices, members, with_null}
 use Rattle.mix_num.specs.Ranges.{Lies}
 use Rattle.mix_bids.specs.Offers.{AreOffers, best, better, gain, meets, offer, pair, same_set, within}
 use Rattle.mix_bids.specs.declared.bid.Bid.{Bid}
@@ -39,6 +39,10 @@ weight_where p (b ∷ bs) = cond (p b) b.weight (pos 0) +ℤ weight_where p bs
 abbrev pub facet_weight : ℕ → ℕ → ℕ → List Bid → Vector → ℤ
 facet_weight n i j bs x = weight_where (λ b. same_set (suc n) (best b.values.items x) (pair i j)) bs
 
+-- the best weight of a set, by its number: the weight of the bids whose best set, of the choices 0 to 8, is exactly this one
+abbrev pub best_weight : List Bid → Vector → ℕ → ℤ
+best_weight bs x set = weight_where (λ b. same_set 9 (best b.values.items x) (members set)) bs
+
 -- the weight of the bids, over n goods, whose best set lies in the set s
 abbrev pub weight_within : ℕ → Choices → List Bid → Vector → ℤ
 weight_within n s bs x = weight_where (λ b. within (suc n) (best b.values.items x) s) bs
@@ -52,6 +56,6 @@ abbrev pub top_value : List Bid → ℕ → ℤ
 top_value [] i = pos 0
 top_value (b ∷ bs) i = better (offer b.values.items i) (pos 0) (top_value bs i)
 
--- no facet weight is negative at any vector
+-- no facet weight of two choices is negative at any whole prices of the goods
 abbrev pub NoneNegative : ℕ → List Bid → Type 0
-NoneNegative n bs = (i j : ℕ) → i ≤ n → j ≤ n → i ≢ j → (x : Vector) → pos 0 ≤ℤ facet_weight n i j bs x
+NoneNegative n bs = (i j : ℕ) → i < j → j ≤ n → (p : List ℤ) → length p ≡ n → pos 0 ≤ℤ facet_weight n i j bs (with_null p)

@@ -1,3 +1,5 @@
 pub mod Offers
 pub mod Bids
 pub mod Convexity
+pub mod Facets
+pub mod Reaches

@@ -1,14 +1,54 @@
 // The best set of a bid.
-ghost use Rattle.std.specs.Prelude.{◌≡◌, ℕ, ◌+◌, ◌^◌, ◌<◌, length};
+ghost use Rattle.std.specs.Prelude.{◌≡◌, ℕ, ◌+◌, ◌^◌, ◌<◌, ◌≤◌, true, false, cond, eqb, pos, ◌≤ℤ◌, length};
+ghost use Rattle.std.specs.Ordering.{int_eq};
 ghost use Rattle.mix_num.specs.Vectors.{members, with_null};
 ghost use Rattle.mix_num.specs.Ranges.{ArePrices, Lies};
-ghost use Rattle.mix_bids.specs.Offers.{best, leaves as leaves_of, IsOffer};
+ghost use Rattle.mix_bids.specs.Offers.{best as best_of, better as better_of, leaves as leaves_of, IsOffer};
 ghost use Rattle.mix_bids.specs.Bids.{IsBid};
 
 use crate::bid::Bid;
-use crate::choices::with_choice_where;
-use crate::gain::gain;
+use crate::choices::{set_where, with_choice_where};
+use crate::gain::better;
 use mix_num::{Prices, Set};
+
+/// Of the choices looked at so far, the greatest value less price, and the set of those that have it.
+#[derive(Clone, Copy, Drop)]
+struct Best {
+    gain: i64,
+    set: Set,
+}
+
+impl Best {
+    /// The null choice alone, which leaves 0.
+    fn null() -> Best
+        ensures gain { result.gain ≡ pos 0 }
+        ensures set { result.set ≡ 1 }
+    {
+        Best {
+            gain: 0,
+            set: Set::from_bits(1),
+        }
+    }
+
+    /// With one more choice looked at.
+    fn with(self, choice: usize, offer: Option<i64>, price: i64) -> Best
+        requires choice { choice ≤ 8 }
+        requires offer { IsOffer offer }
+        requires price { Lies 4000000 price }
+        requires gain { (pos 0 ≤ℤ self.gain) × (self.gain ≤ℤ pos 5000000) }
+        ensures gain { result.gain ≡ better_of offer price self.gain }
+        ensures range { (pos 0 ≤ℤ result.gain) × (result.gain ≤ℤ pos 5000000) }
+        ensures set { (k : ℕ) → members result.set k ≡ cond (cond (eqb k choice) (leaves_of offer price result.gain) false) true (cond (int_eq result.gain self.gain) (members self.set k) false) }
+        ensures size { (m : ℕ) → self.set < 2 ^ m → choice < m → result.set < 2 ^ m }
+    {
+        let gain = better(offer, price, self.gain);
+        let before = set_where(gain == self.gain, self.set);
+        Best {
+            gain,
+            set: with_choice_where(leaves(offer, price, gain), before, choice),
+        }
+    }
+}
 
 /// Whether the offer leaves the gain at the price.
 fn leaves(offer: Option<i64>, price: i64, gain: i64) -> bool
@@ -26,16 +66,14 @@ fn leaves(offer: Option<i64>, price: i64, gain: i64) -> bool
 pub fn best_set(bid: &Bid, prices: &Prices) -> Set
     requires bid { IsBid (length prices.now.items) bid.now }
     requires prices { ArePrices (length prices.now.items) prices.now.items }
-    ensures best { (k : ℕ) → members result k ≡ best bid.now.values.items (with_null prices.now.items) k }
+    ensures best { (k : ℕ) → members result k ≡ best_of bid.now.values.items (with_null prices.now.items) k }
     ensures within { result < 2 ^ (length prices.now.items + 1) }
 {
-    let greatest = gain(&bid.values, prices);
     let offers = bid.values.as_slice();
     let prices = prices.as_slice();
-    let null_is_best = leaves(Some(0), 0, greatest);
-    let mut set = with_choice_where(null_is_best, Set::from_bits(0), 0);
+    let mut best = Best::null();
     for i in 0..offers.len() {
-        set = with_choice_where(leaves(offers[i], prices[i], greatest), set, i + 1);
+        best = best.with(i + 1, offers[i], prices[i]);
     }
-    set
+    best.set
 }

@@ -23,6 +23,14 @@ pub fn with_choice_where(test: bool, set: Set, choice: usize) -> Set
     if test { with_choice(set, choice) } else { set }
 }
 
+/// The set where the test holds, or no choice.
+pub fn set_where(test: bool, set: Set) -> Set
+    ensures members { (k : ℕ) → members result k ≡ cond test (members set k) false }
+    ensures size { (m : ℕ) → set < 2 ^ m → result < 2 ^ m }
+{
+    if test { set } else { Set::from_bits(0) }
+}
+
 /// The set of two choices.
 pub fn pair_of(first: usize, second: usize) -> Set
     requires { (first ≤ 8) × (second ≤ 8) }

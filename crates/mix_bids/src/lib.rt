@@ -1,11 +1,13 @@
 //! Bids, lists of bids, and their indirect utility.
 #![tactic(auto)]
 
+mod all_sets;
 mod best;
 mod bid;
 mod choices;
 mod gain;
 mod list;
+mod reach;
 mod scales;
 mod sums;
 #[cfg(test)]

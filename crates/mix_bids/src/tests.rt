@@ -4,7 +4,7 @@ ghost use Rattle.mix_num.specs.Ranges.{ArePrices, Lies};
 ghost use Rattle.mix_bids.specs.Bids.{IsBid};
 
 use crate::{Bid, BidList, Values, best_set};
-use mix_num::{Memory, Prices, Set};
+use mix_num::{Memory, Prices, Set, SetTable};
 use std::alloc::Global;
 use std::test::Fail;
 
@@ -82,5 +82,30 @@ fn sums(rt: HostRuntime) -> Result<(), Fail> {
     assert_eq!(rt; list.facet_weight(0, 2, &sold), 0);
     assert_eq!(rt; list.fall(&sold, Set::from_bits(0b100)), 1);
     assert_eq!(rt; list.gain_down(&sold, Set::from_bits(0b010)), 1);
+    Ok(())
+}
+
+#[test]
+fn reaches(rt: HostRuntime) -> Result<(), Fail> {
+    let list = four(rt.alloc())?;
+    let sold = prices(4, 0);
+    assert_eq!(rt; list.reach(&sold, Set::from_bits(0b110)), 4);
+    assert_eq!(rt; list.reach(&sold, Set::from_bits(0b100)), 4);
+    assert_eq!(rt; list.reach(&sold, Set::from_bits(0b010)), 8_000_000);
+    assert_eq!(rt; list.reach(&prices(3, 0), Set::from_bits(0b010)), 1);
+    Ok(())
+}
+
+#[test]
+fn best_weights(rt: HostRuntime) -> Result<(), Fail> {
+    let list = four(rt.alloc())?;
+    let mut weights = SetTable::new();
+    list.best_weights(&prices(4, 4), &mut weights);
+    assert_eq!(rt; weights.at(Set::from_bits(0b110)), 1);
+    list.best_weights(&prices(4, 0), &mut weights);
+    for bits in 0..512 {
+        let expected = if bits == 0b011 || bits == 0b100 { 1 } else { 0 };
+        assert_eq!(rt; weights.at(Set::from_bits(bits)), expected);
+    }
     Ok(())
 }

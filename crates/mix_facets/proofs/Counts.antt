@@ -14,7 +14,7 @@ use Rattle.mix_num.proofs.Equalities.{int_eq_is}
 use Rattle.mix_bids.proofs.Lengths.{AreOver, first_over, rest_over}
 use Rattle.mix_facets.specs.Leads.{lead, lead_of}
 use Rattle.mix_facets.specs.Planes.{is_lead, has_lead, level_bids}
-use Rattle.mix_facets.specs.Points.{is_below, is_counted, weight_counted}
+use Rattle.mix_facets.specs.Counted.{is_below, is_counted, weight_counted}
 use Rattle.mix_facets.proofs.Exacts.{IsTorn, not_pair, torn_of, torn_to}
 
 -- by how much each price lies above that of the choice i

@@ -14,7 +14,8 @@ use Rattle.mix_bids.proofs.Sets.{all_to-true}
 use Rattle.mix_bids.proofs.Lengths.{AreOver}
 use Rattle.mix_facets.specs.Leads.{lead, lead_of, negative_lead}
 use Rattle.mix_facets.specs.Planes.{has_lead, level_bids, differences, Plane, IsLevelOf}
-use Rattle.mix_facets.specs.Points.{other, place, coordinate, prices_at, is_below, is_counted, weight_counted, IsCoordinate, IsNullCoordinate, IsPoint}
+use Rattle.mix_facets.specs.Points.{other, place, coordinate, prices_at, IsCoordinate, IsNullCoordinate, IsPoint}
+use Rattle.mix_facets.specs.Counted.{is_below, is_counted, weight_counted}
 use Rattle.mix_facets.specs.Candidates.{candidates}
 use Rattle.mix_facets.specs.Grids.{size_of, point_at, IsOn, IsGridOf}
 use Rattle.mix_facets.proofs.Exacts.{not_pair}
@@ -23,7 +24,7 @@ use Rattle.mix_facets.proofs.Members.{in_filter, contains_image}
 use Rattle.mix_facets.proofs.Moves.{moved, moved_less, moved_good, moved_counted, SomeNegative, some_negative}
 use Rattle.mix_facets.proofs.Placings.{other-place, place_below, other_first}
 use Rattle.mix_facets.proofs.PointPrices.{price_first, price_second, price_other}
-use Rattle.mix_facets.proofs.Numberings.{number_of}
+use Rattle.mix_facets.proofs.Numberings.{numbered_on}
 
 -- ---- what is counted reads the other choices alone
 
@@ -107,7 +108,7 @@ some_less book level grid x o v g e h =
     let s = some_negative n i j bs u (omega (arith, ints)) in
     let p = moved_point m i j bs u in
     let l : length p ≡ m = length-map-range_with_len (λ k. moved i bs u (other i j k)) 0 m in
-    let r = number_of grid p (record {
+    let r = numbered_on grid p (record {
       size = l;
       each = λ k b. subst (Contains (get_or grid k [])) (sym (moved_coordinate m i j bs u k b))
           (((g.each k b).members (moved i bs u (other i j k))).1 (moved_candidate n i j d book.bids u (other i j k) v.order (other_first i j k v.order) s));

@@ -41,12 +41,12 @@ pub record Number (grid : List (List ℤ)) (point : List ℤ) : Type 0 where
   pub below : number < size_of grid
   pub is : point_at grid number ≡ point
 
-pub number_of : (grid : List (List ℤ)) (point : List ℤ) → IsOn grid point → Number grid point
-number_of [] [] h = record { number = 0; below = omega arith; is = refl }
-number_of [] (u ∷ us) h = let e = h.size in absurd (omega arith)
-number_of (us ∷ grid) [] h = let e = h.size in absurd (omega arith)
-number_of (us ∷ grid) (u ∷ point) h =
-    let r = number_of grid point (record { size = let e = h.size in omega arith; each = λ k l. h.each (suc k) (omega arith) }) in
+pub numbered_on : (grid : List (List ℤ)) (point : List ℤ) → IsOn grid point → Number grid point
+numbered_on [] [] h = record { number = 0; below = omega arith; is = refl }
+numbered_on [] (u ∷ us) h = let e = h.size in absurd (omega arith)
+numbered_on (us ∷ grid) [] h = let e = h.size in absurd (omega arith)
+numbered_on (us ∷ grid) (u ∷ point) h =
+    let r = numbered_on grid point (record { size = let e = h.size in omega arith; each = λ k l. h.each (suc k) (omega arith) }) in
     let f : Contains us u = h.each 0 (omega arith) in
     let l = r.below in
     let e : get_or us f.0 (pos 0) ≡ u = get_or_default us f.0 (pos 0) u f.1 ∙ f.2 in

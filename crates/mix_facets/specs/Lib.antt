@@ -1,5 +1,6 @@
 pub mod Leads
 pub mod Planes
 pub mod Points
+pub mod Counted
 pub mod Candidates
 pub mod Grids

@@ -1,10 +1,6 @@
 -- Points of a level: a coordinate for each choice other than its two, and the prices that it stands for.
-use Rattle.std.specs.Prelude.{◌≡◌, ◌≢◌, ℕ, suc, ◌+◌, ◌-◌, Bool, true, cond, eqb, ltb, List, ℤ, pos, neg_ℤ, ◌+ℤ◌, ◌-ℤ◌, ◌≤ℤ◌, Option, Some, None, int_lt, get_or, length, All}
-use Rattle.mix_num.specs.Vectors.{Vector, Choices}
-use Rattle.mix_bids.specs.Bids.{weight_where}
-use Rattle.mix_bids.specs.Offers.{all_to, pair}
-use Rattle.mix_bids.specs.declared.bid.Bid.{Bid}
-use Rattle.mix_facets.specs.Leads.{lead_of}
+use Rattle.std.specs.Prelude.{◌≡◌, ◌≢◌, ℕ, suc, ◌+◌, ◌-◌, cond, eqb, ltb, List, ℤ, pos, neg_ℤ, ◌+ℤ◌, ◌-ℤ◌, ◌≤ℤ◌, get_or, length, All}
+use Rattle.mix_num.specs.Vectors.{Vector}
 use Rattle.mix_facets.specs.Planes.{Plane}
 
 -- the choice of the coordinate k, where i and j are left out
@@ -29,23 +25,6 @@ prices_at level point = λ c.
     cond (eqb c level.first) (first_price level.first point)
     (cond (eqb c level.second) (first_price level.first point -ℤ level.difference)
     (first_price level.first point +ℤ coordinate level.first level.second point c))
-
--- whether a lead, where there is one, lies below u
-abbrev pub is_below : Option ℤ → ℤ → Bool
-is_below None u = true
-is_below (Some v) u = int_lt v u
-
--- the choices, i and j among them, that a bid leaves out or values above i by less than the coordinates u
-abbrev pub stays_below : ℕ → ℕ → Vector → Bid → Choices
-stays_below i j u b = λ c. cond (pair i j c) true (is_below (lead_of b c i) (u c))
-
--- whether a bid that is torn between i and j likes no other choice as much
-abbrev pub is_counted : ℕ → ℕ → ℕ → Vector → Bid → Bool
-is_counted n i j u b = all_to (suc n) (stays_below i j u b)
-
--- the weight of the bids that are counted
-abbrev pub weight_counted : ℕ → ℕ → ℕ → List Bid → Vector → ℤ
-weight_counted n i j bs u = weight_where (is_counted n i j u) bs
 
 -- a coordinate, and one of the null choice: at most the greatest value away from 0, but for the one that is added
 abbrev pub IsCoordinate : ℤ → Type 0

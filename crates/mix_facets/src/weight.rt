@@ -4,7 +4,8 @@ ghost use Rattle.mix_num.specs.Vectors.{Vector, Agree};
 ghost use Rattle.mix_num.specs.Ranges.{Lies};
 ghost use Rattle.mix_bids.specs.Bids.{facet_weight, IsBid};
 ghost use Rattle.mix_facets.specs.Planes.{IsLevelOf};
-ghost use Rattle.mix_facets.specs.Points.{coordinate, is_counted as is_counted_at, prices_at, stays_below as stays_below_at, IsPoint};
+ghost use Rattle.mix_facets.specs.Points.{coordinate, prices_at, IsPoint};
+ghost use Rattle.mix_facets.specs.Counted.{is_counted as is_counted_at, stays_below as stays_below_at};
 
 use crate::lead::lead;
 use crate::level::Level;

@@ -1,8 +1,8 @@
 -- A list is convex over all rational prices exactly where no facet weight of it is negative.
-use Rattle.std.proofs.Common.{◌≡◌, ◌↔◌, ℕ, ◌*◌, ◌≤◌, List, ℤ, neg_ℤ, ◌+ℤ◌, ◌-ℤ◌, ◌*ℤ◌, ◌≤ℤ◌, arith, ap, ◌∙◌, map}
+use Rattle.std.proofs.Common.{◌≡◌, ◌≢◌, ◌↔◌, ℕ, ◌*◌, ◌≤◌, List, ℤ, neg_ℤ, ◌+ℤ◌, ◌-ℤ◌, ◌*ℤ◌, ◌≤ℤ◌, arith, ap, ◌∙◌, map}
 use Rattle.std.proofs.lemmas.Int.{ints}
 use mathlib.Core.Path.{fun_ext}
-use Rattle.mix_num.specs.Vectors.{Vector, only, plus, shifted}
+use Rattle.mix_num.specs.Vectors.{Vector, only, plus, shifted, with_null}
 use Rattle.mix_num.proofs.Products.{sum-*ℤ}
 use Rattle.mix_bids.specs.Offers.{pair}
 use Rattle.mix_bids.specs.Bids.{NoneNegative, total_weight, utility}
@@ -45,14 +45,17 @@ any_null bs convex d some x y =
     let s = sum-*ℤ a b (total_weight bs) in
     omega (arith, ints)
 
--- and no facet weight of it is negative: half way between the prices with either choice raised lies half a step of both
+-- and no facet weight of it is negative at any whole prices: half way between those with either choice raised lies half a step of both
 pub none_negative_of : (n : ℕ) (bs : List Bid) → AreOver n bs → IsConvexList bs → NoneNegative n bs
-none_negative_of n bs o convex i j a b d x =
+none_negative_of n bs o convex i j h b p _ =
+    let x = with_null p in
+    let a : i ≤ n = omega arith in
+    let d : i ≢ j = omega arith in
     let sum : Vector = λ k. plus x (only i) k +ℤ plus x (only j) k in
     let half : Vector = λ k. x k +ℤ plus x (pair i j) k in
     let two = plus_two x i j d in
     let same : sum ≡ half = fun_ext (λ k. omega (arith, ints, ap (λ (z : Vector). z k) two)) in
-    let h = any_null bs convex 1 (omega arith) (plus x (only i)) (plus x (only j)) in
+    let mean = any_null bs convex 1 (omega arith) (plus x (only i)) (plus x (only j)) in
     let f : utility_at bs 2 sum ≡ utility_at bs 1 x +ℤ utility_at bs 1 (plus x (pair i j)) = ap (utility_at bs 2) same ∙ utility_halfway n 1 bs x (pair i j) o in
     let g = local_utility n bs x i j o a b d in
     let u = ap (utility bs) two in

@@ -2,7 +2,7 @@
 use Rattle.std.proofs.Common.{◌≡◌, ℕ, suc, ◌≤◌, List, [], ◌∷◌, pos, ◌+ℤ◌, ◌-ℤ◌, ◌*ℤ◌, cond, refl, arith, sym, ap, ap₂, subst, ◌∙◌, int_eq, length, map}
 use Rattle.std.proofs.lemmas.Int.{ints}
 use Rattle.std.proofs.lemmas.Bool.{false≢true}
-use Rattle.mix_num.specs.Vectors.{Vector}
+use Rattle.mix_num.specs.Vectors.{Vector, with_null}
 use Rattle.mix_num.proofs.Equalities.{int_eq_is}
 use Rattle.mix_num.proofs.Products.{*ℤ-difference}
 use Rattle.mix_num.proofs.Quotients.{below_ceiling, ceiling, ceiling_exact, ceiling_is}
@@ -15,7 +15,7 @@ use Rattle.mix_bids.proofs.Lengths.{AreOver, first_over, rest_over}
 use Rattle.mix_bids.proofs.Multiples.{length-offers_at, offered_at, offered_once, over_at, total_at}
 use Rattle.mix_facets.proofs.Exacts.{IsTorn, torn_of, torn_to}
 use Rattle.mix_law.specs.Members.{KeepsLocal}
-use Rattle.mix_validity.specs.Laws.{list_keeps}
+use Rattle.mix_validity.specs.Laws.{list_keeps, none_anywhere}
 
 -- by how much each price lies above that of the choice i, divided by d and rounded up
 abbrev pub divided : ℕ → ℕ → Vector → Vector
@@ -101,11 +101,13 @@ facet_odd n d (c ∷ bs) x i j o a b some odd =
 
 -- a list without negative facet weights has none at any scale
 pub none_negative_at : (n d : ℕ) (bs : List Bid) → AreOver n bs → 1 ≤ d → NoneNegative n bs → NoneNegative n (map (bid_at d) bs)
-none_negative_at n d bs o some none i j a b e x =
+none_negative_at n d bs o some none i j a b p _ =
+    let x = with_null p in
+    let l : i ≤ n = omega arith in
     let is = int_eq_is (pos d *ℤ divided d i x j) (x j -ℤ x i) in
     by_test (int_eq (pos d *ℤ divided d i x j) (x j -ℤ x i))
-    (λ t. let q = facet_even n d bs x i j o a b some (is.0 t) in let r = none i j a b e (divided d i x) in omega (arith, ints))
-    (λ t. let q = facet_odd n d bs x i j o a b some (λ m. false≢true (sym t ∙ is.1 m)) in omega (arith, ints))
+    (λ t. let q = facet_even n d bs x i j o l b some (is.0 t) in let r = none_anywhere n bs o none i j l b (omega arith) (divided d i x) in omega (arith, ints))
+    (λ t. let q = facet_odd n d bs x i j o l b some (λ m. false≢true (sym t ∙ is.1 m)) in omega (arith, ints))
 
 -- so at each scale its indirect utility keeps what most facts of members rest on
 pub utility_keeps : (n d : ℕ) (bs : List Bid) → AreOver n bs → 1 ≤ d → NoneNegative n bs → KeepsLocal n (utility_at bs d) (total_weight bs)

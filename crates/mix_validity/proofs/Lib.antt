@@ -1,4 +1,5 @@
 pub mod ConvexLists
 pub mod FacetsAtScales
-mod NoneNegatives
+pub mod ListLaws
+pub mod ListsAtScales
 mod Tops

@@ -1,27 +1,43 @@
--- Why a valid list keeps the laws of a member.
+-- Why a valid list keeps the laws of a member. For proofs; no public clause rests on it.
 use Rattle.std.specs.Prelude.{◌≡◌, ◌≢◌, ℕ, zero, suc, ◌≤◌, ◌<◌, false, List, ℤ, pos, ◌+ℤ◌, ◌-ℤ◌, ◌*ℤ◌, ◌≤ℤ◌, ◌<ℤ◌}
-use Rattle.std.proofs.Common.{arith, ap, ◌∙◌}
+use Rattle.std.proofs.Common.{⊎_elim, arith, ap, ◌∙◌}
 use Rattle.std.proofs.lemmas.Int.{ints, clamps}
+use Rattle.std.proofs.lemmas.Bool.{cases_lt}
 use Rattle.std.proofs.lemmas.Bool.Decides.{nat_tests}
 use Rattle.std.proofs.Math.IntN.{*ℤ_comm}
 use Rattle.mix_num.specs.Vectors.{Vector, bit, plus, only, shifted}
-use Rattle.mix_bids.specs.Bids.{AreBids, NoneNegative, top_value, total_weight, utility}
+use Rattle.mix_bids.specs.Bids.{AreBids, NoneNegative, facet_weight, top_value, total_weight, utility}
 use Rattle.mix_bids.specs.declared.bid.Bid.{Bid}
+use Rattle.mix_bids.proofs.FacetsAtPrices.{facet_weight_at_prices, length-prices_above, prices_above}
 use Rattle.mix_bids.proofs.Lengths.{AreOver, over_of}
 use Rattle.mix_bids.proofs.Weights.{utility_reads, utility_shifted}
 use Rattle.mix_bids.proofs.Locals.{local_utility}
 use Rattle.mix_bids.proofs.Far.{utility_far, utility_none}
 use Rattle.mix_bids.proofs.Near.{utility_near}
+use Rattle.mix_facets.proofs.Conclusions.{facet_weight-swap}
 use Rattle.mix_law.specs.Members.{IsConvex, KeepsLocal, excess}
 use Rattle.mix_law.proofs.Lattice.{apart, more, over, over_is}
 use Rattle.mix_law.proofs.Ranges.{excess_covers, excess_nonnegative}
 
--- the local difference is a facet weight, and none is negative
+-- none of the facet weights is negative at any vector: each is one at whole prices, and the order of its choices doesn't matter
+pub none_anywhere : (n : ℕ) (bs : List Bid) → AreOver n bs → NoneNegative n bs → (i j : ℕ) → i ≤ n → j ≤ n → i ≢ j → (x : Vector) → pos 0 ≤ℤ facet_weight n i j bs x
+none_anywhere n bs o none i j l m d x = ⊎_elim
+    (λ h. at_prices i j h m)
+    (λ h. let e = facet_weight-swap n i j bs x in let f = at_prices j i (omega arith) l in omega (arith, ints))
+    (cases_lt i j)
+  where
+    at_prices : (i j : ℕ) → i < j → j ≤ n → pos 0 ≤ℤ facet_weight n i j bs x
+    at_prices i j h m =
+        let e = facet_weight_at_prices n i j bs x o in
+        let f = none i j h m (prices_above n x) (length-prices_above n x) in
+        omega (arith, ints)
+
+-- the local difference is a facet weight
 local_kept : (n : ℕ) (bs : List Bid) → AreOver n bs → NoneNegative n bs → (x : Vector) (i j : ℕ) → i ≤ n → j ≤ n → i ≢ j
     → (utility bs x +ℤ utility bs (plus (plus x (only i)) (only j))) ≤ℤ (utility bs (plus x (only i)) +ℤ utility bs (plus x (only j)))
 local_kept n bs over valid x i j l m d =
     let e = local_utility n bs x i j over l m d in
-    let f = valid i j l m d x in
+    let f = none_anywhere n bs over valid i j l m d x in
     omega (arith, ints)
 
 -- bids with n offers each, whatever their values: what most facts rest on is kept where no facet weight is negative

@@ -1,3 +1,4 @@
 pub mod ValidLists
 pub mod Laws
 pub mod Refusals
+pub mod Searches

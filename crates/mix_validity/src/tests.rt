@@ -7,7 +7,7 @@ ghost use Rattle.mix_validity.specs.ValidLists.{book_of};
 use crate::{Refused, ValidList, validate};
 use mix_bids::{Bid, BidList, Values};
 use mix_law::{Convex, Pair};
-use mix_num::{Memory, Prices, Set};
+use mix_num::{Memory, Prices, Set, SetTable};
 use std::alloc::Global;
 use std::test::Fail;
 
@@ -149,6 +149,24 @@ fn answers<D: Convex>(member: &D) -> [i64; 9]
     ]
 }
 
+/// The fall and the gain of each set of the null choice and two goods at the prices 4 and 0, read from the tables of all sets.
+fn swept<D: Convex>(member: &D) -> [(i64, i64); 8]
+    requires { D.size member.now ≡ 2 }
+{
+    let prices = prices();
+    let _total = member.total();
+    let mut falls = SetTable::new();
+    member.falls(&prices, &mut falls);
+    let mut gains = SetTable::new();
+    member.gains(&prices, &mut gains);
+    let mut numbers = [(0, 0); 8];
+    for bits in 0..8_u16 {
+        let set = Set::from_bits(bits);
+        numbers[bits as usize] = (falls.at(set), gains.at(set));
+    }
+    numbers
+}
+
 /// The valid list, as one.
 fn member(alloc: Global) -> Result<ValidList, Refused>
     ensures { IfOk result (λ valid. (book_of valid).goods ≡ 2) }
@@ -174,7 +192,34 @@ fn pair(first: ValidList, second: ValidList) -> Pair<ValidList, ValidList>
 fn members(rt: HostRuntime) -> Result<(), Fail> {
     let first = member(rt.alloc()).ok().ok_or("memory")?;
     let second = member(rt.alloc()).ok().ok_or("memory")?;
-    assert_eq!(rt; answers(&first), [2, 2, 6, 6, 6, 1, 2, 1, 1]);
-    assert_eq!(rt; answers(&pair(first, second)), [2, 4, 6, 6, 12, 2, 4, 2, 1]);
+    assert_eq!(rt; answers(&first), [2, 2, 6, 6, 6, 1, 2, 1, 4]);
+    assert_eq!(rt;
+        swept(&first),
+        [
+            (0, 0),
+            (0, 1),
+            (0, 1),
+            (1, 1),
+            (1, 1),
+            (1, 2),
+            (1, 2),
+            (2, 2)
+        ]
+    );
+    let both = pair(first, second);
+    assert_eq!(rt; answers(&both), [2, 4, 6, 6, 12, 2, 4, 2, 4]);
+    assert_eq!(rt;
+        swept(&both),
+        [
+            (0, 0),
+            (0, 2),
+            (0, 2),
+            (2, 2),
+            (2, 2),
+            (2, 4),
+            (2, 4),
+            (4, 4)
+        ]
+    );
     Ok(())
 }

@@ -4,7 +4,7 @@ ghost use Rattle.mix_bids.specs.Bids.{AreBids, NoneNegative};
 
 use mix_bids::BidList;
 use mix_law::Convex;
-use mix_num::{Prices, Set};
+use mix_num::{Prices, Set, SetTable};
 
 /// A list that is convex over all rational prices: it stands for a demand. What it carries is that no facet weight of it is
 /// negative at any whole prices, which is the same.
@@ -42,9 +42,11 @@ impl ValidList {
     }
 }
 
-/// The function is the indirect utility, the total is the sum of the weights, and the tops are the greatest values offered.
+/// The function is the indirect utility, the total is the sum of the weights, and the tops are the greatest values offered. The
+/// reach is the list's, and the falls and the gains of all sets come from one pass over the bids.
 impl Convex for ValidList {
     ghost use Rattle.mix_bids.specs.Bids.{top_value, total_weight, utility};
+    ghost use Rattle.mix_bids.specs.Reaches.{reach_of};
     ghost use Rattle.mix_validity.specs.Laws.{valid_convex};
 
     ghost size = { λ valid. valid.list.goods };
@@ -54,6 +56,8 @@ impl Convex for ValidList {
     ghost ceiling = { λ valid. top_value valid.list.bids };
 
     ghost function = { λ valid. utility valid.list.bids };
+
+    ghost span = { λ valid x s. reach_of valid.list.goods s valid.list.bids x };
 
     ghost convex = { λ valid. valid_convex valid.list.goods valid.list.bids valid.proper valid.valid };
 
@@ -81,7 +85,15 @@ impl Convex for ValidList {
         self.list.gain_down(prices, set)
     }
 
-    fn reach(&self, _prices: &Prices, _set: Set) -> i64 {
-        1
+    fn reach(&self, prices: &Prices, set: Set) -> i64 {
+        self.list.reach(prices, set)
+    }
+
+    fn falls(&self, prices: &Prices, out: &mut SetTable) {
+        self.list.falls(prices, out)
+    }
+
+    fn gains(&self, prices: &Prices, out: &mut SetTable) {
+        self.list.gains(prices, out)
     }
 }

@@ -4,7 +4,8 @@ ghost use Rattle.mix_bids.specs.Bids.{facet_weight, NoneNegative};
 ghost use Rattle.mix_bids.specs.Convexity.{IsConvexList};
 ghost use Rattle.mix_facets.specs.Planes.{IsLevelOf};
 ghost use Rattle.mix_facets.specs.Points.{prices_at, IsPoint};
-ghost use Rattle.mix_validity.specs.Refusals.{IsClear, IsClearAt, IsClearFrom, IsNegativeFacet, IsTrueRefusal};
+ghost use Rattle.mix_validity.specs.Refusals.{HasFacet, ShowsNotConvex};
+ghost use Rattle.mix_validity.specs.Searches.{IsClear, IsClearAt, IsClearFrom};
 ghost use Rattle.mix_validity.specs.ValidLists.{book_of};
 
 use crate::convexity::convex_where_none_negative;
@@ -22,7 +23,7 @@ use std::alloc::Global;
 pub fn validate(alloc: Global, list: BidList) -> Result<ValidList, Refused>
     ensures list { IfOk result (λ valid. book_of valid ≡ list) }
     ensures convex { IfOk result (λ valid. IsConvexList list.bids) }
-    ensures refused { IfErr result (IsTrueRefusal list) }
+    ensures refused { IfErr result (ShowsNotConvex list) }
 {
     convex_where_none_negative(&list);
     let Ok(found) = refusal_of(alloc, &list) else {
@@ -36,7 +37,7 @@ pub fn validate(alloc: Global, list: BidList) -> Result<ValidList, Refused>
 
 /// A facet of negative weight of any two choices.
 fn refusal_of(alloc: Global, list: &BidList) -> Result<Option<NotValid>, Memory>
-    ensures { IfOk result (λ found. MatchOption found (NoneNegative list.now.goods list.now.bids) (IsNegativeFacet list.now)) }
+    ensures { IfOk result (λ found. MatchOption found (NoneNegative list.now.goods list.now.bids) (HasFacet list.now)) }
 {
     for first in 0..list.goods() {
         if let Some(facet) = refusal_with_first(alloc, list, first)? {
@@ -53,7 +54,7 @@ fn refusal_with_first(
     first: usize,
 ) -> Result<Option<NotValid>, Memory>
     requires { first < list.now.goods }
-    ensures { IfOk result (λ found. MatchOption found (IsClearFrom list.now first) (IsNegativeFacet list.now)) }
+    ensures { IfOk result (λ found. MatchOption found (IsClearFrom list.now first) (HasFacet list.now)) }
 {
     let goods = list.goods();
     for second in first + 1..goods + 1 {
@@ -73,7 +74,7 @@ fn refusal_of_pair(
 ) -> Result<Option<NotValid>, Memory>
     requires order { first < second }
     requires within { second ≤ list.now.goods }
-    ensures { IfOk result (λ found. MatchOption found (IsClear list.now first second) (IsNegativeFacet list.now)) }
+    ensures { IfOk result (λ found. MatchOption found (IsClear list.now first second) (HasFacet list.now)) }
 {
     let levels = levels_of(alloc, list, first, second)?;
     for place in 0..levels.len() {
@@ -95,7 +96,7 @@ fn refusal_at_level(
     requires level { IsLevelOf list.now level.now }
     requires first { level.now.first ≡ first }
     requires second { level.now.second ≡ second }
-    ensures { IfOk result (λ found. MatchOption found (IsClearAt list.now first second level.now.difference) (IsNegativeFacet list.now)) }
+    ensures { IfOk result (λ found. MatchOption found (IsClearAt list.now first second level.now.difference) (HasFacet list.now)) }
 {
     let grid = grid_of(alloc, list, level)?;
     for number in 0..grid.size() {
@@ -118,7 +119,7 @@ fn refusal_at_point(
     requires first { level.now.first ≡ first }
     requires second { level.now.second ≡ second }
     requires point { IsPoint level.now point.now.items }
-    ensures { MatchOption result (pos 0 ≤ℤ facet_weight list.now.goods level.now.first level.now.second list.now.bids (prices_at level.now point.now.items)) (IsNegativeFacet list.now) }
+    ensures { MatchOption result (pos 0 ≤ℤ facet_weight list.now.goods level.now.first level.now.second list.now.bids (prices_at level.now point.now.items)) (HasFacet list.now) }
 {
     let weight = weight_at(list, level, point);
     if weight >= 0 {

@@ -1,10 +1,12 @@
-use Rattle.std.proofs.Common.{◌≡◌, ◌+◌, ◌^◌, ◌<◌, ℕ, cond, ltb, false}
+use Rattle.std.proofs.Common.{◌≡◌, ◌+◌, ◌^◌, ◌<◌, ℕ, pos, ◌≤ℤ◌, take}
 use Rattle.mix_num.specs.Vectors.{with_null, members}
-use Rattle.mix_bids.specs.Offers.{best}
+use Rattle.mix_bids.specs.Offers.{best, gain}
 use Rattle.mix_bids.proofs.best.best_set.Given as goal
 
 abbrev pub invariant-loop-i : goal.invariant-loop-i
 invariant-loop-i l = record {
-  so_far : (k : ℕ) → members l.set k ≡ cond (ltb k (l.i + 1)) (best l.offers (with_null l.prices) k) false;
-  size : l.set < 2 ^ (l.i + 1);
+  gain : l.best.gain ≡ gain (take l.i l.offers) (with_null l.prices);
+  set : (k : ℕ) → members l.best.set k ≡ best (take l.i l.offers) (with_null l.prices) k;
+  range : (pos 0 ≤ℤ l.best.gain) × (l.best.gain ≤ℤ pos 5000000);
+  size : l.best.set < 2 ^ (l.i + 1);
 }

@@ -1,5 +1,6 @@
 use Rattle.std.proofs.Common.{◌≡◌, suc, ◌<◌, arith, sym, ap, ◌∙◌}
-use Rattle.mix_facets.specs.Points.{coordinate, stays_below}
+use Rattle.mix_facets.specs.Points.{coordinate}
+use Rattle.mix_facets.specs.Counted.{stays_below}
 use Rattle.mix_facets.proofs.AllBelow.{all_to_more, all_to_less, all_to_reach}
 use Rattle.mix_facets.proofs.weight.is_counted.Goals as goal
 

@@ -1,6 +1,7 @@
 use Rattle.std.proofs.Common.{◌≡◌, true}
 use Rattle.mix_bids.specs.Offers.{all_to}
-use Rattle.mix_facets.specs.Points.{coordinate, stays_below}
+use Rattle.mix_facets.specs.Points.{coordinate}
+use Rattle.mix_facets.specs.Counted.{stays_below}
 use Rattle.mix_facets.proofs.weight.is_counted.Given as goal
 
 abbrev pub invariant-loop-choice : goal.invariant-loop-choice

@@ -3,7 +3,8 @@ use Rattle.std.proofs.lemmas.Int.{ints}
 use Rattle.mix_bids.specs.Bids.{weight_where}
 use Rattle.mix_bids.proofs.Lengths.{over_of}
 use Rattle.mix_facets.specs.Planes.{bids_of}
-use Rattle.mix_facets.specs.Points.{coordinate, is_counted}
+use Rattle.mix_facets.specs.Points.{coordinate}
+use Rattle.mix_facets.specs.Counted.{is_counted}
 use Rattle.mix_facets.proofs.Weighing.{weight_step, weight_end}
 use Rattle.mix_facets.proofs.Leasts.{point_weight}
 use Rattle.mix_facets.proofs.weight.weight_at.Goals as goal

@@ -1,5 +1,5 @@
 use Rattle.std.proofs.Common.{ℕ, ◌<◌}
-use Rattle.mix_validity.specs.Refusals.{IsClearFrom}
+use Rattle.mix_validity.specs.Searches.{IsClearFrom}
 use Rattle.mix_validity.proofs.validation.refusal_of.Given as goal
 
 abbrev pub invariant-loop-first : goal.invariant-loop-first

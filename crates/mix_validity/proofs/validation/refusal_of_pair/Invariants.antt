@@ -1,6 +1,6 @@
 use Rattle.std.proofs.Common.{◌≡◌, ℕ, ◌<◌, get_or}
 use Rattle.mix_facets.specs.Planes.{Plane}
-use Rattle.mix_validity.specs.Refusals.{IsClearAt}
+use Rattle.mix_validity.specs.Searches.{IsClearAt}
 use Rattle.mix_validity.proofs.validation.refusal_of_pair.Given as goal
 
 abbrev pub invariant-loop-place : goal.invariant-loop-place

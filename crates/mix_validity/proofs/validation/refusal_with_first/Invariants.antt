@@ -1,5 +1,5 @@
 use Rattle.std.proofs.Common.{ℕ, ◌<◌}
-use Rattle.mix_validity.specs.Refusals.{IsClear}
+use Rattle.mix_validity.specs.Searches.{IsClear}
 use Rattle.mix_validity.proofs.validation.refusal_with_first.Given as goal
 
 abbrev pub invariant-loop-second : goal.invariant-loop-second

@@ -1,7 +1,7 @@
 use Rattle.std.proofs.Common.{◌≡◌, ℕ, ◌+◌, ◌*◌, ◌^◌, ◌≤◌, ◌<◌, List, [], ℤ, arith, ap, subst, ◌∙◌, length, get_or}
 use Rattle.std.proofs.lemmas.List.{get_or_default}
 use Rattle.mix_facets.specs.Grids.{size_of, IsDistinct}
-use Rattle.mix_facets.proofs.Numberings.{number_of, number_once}
+use Rattle.mix_facets.proofs.Numberings.{numbered_on, number_once}
 use Rattle.mix_facets.proofs.Sizes.{size_step, size_end, power_step, size_most}
 use Rattle.mix_facets.proofs.grid.Grid.size.Goals as goal
 use Rattle.mix_facets.proofs.grid.Grid.size.Goals.{After-len, After-loop-numbers}
@@ -43,7 +43,7 @@ returns-clause-range c = size_most c.loop-numbers.size c.loop-numbers.numbers-in
 
 pub returns-clause-all : goal.returns-clause-all
 returns-clause-all c = λ point o.
-    let n = number_of c.args.self.now point o in
+    let n = numbered_on c.args.self.now point o in
     (n.number, omega (arith, n.below, size_is (goal.at.returns-clause-all c).After-loop-numbers), n.is)
 
 pub returns-clause-once : goal.returns-clause-once
