@@ -3,3 +3,7 @@ pub mod Exchanges
 pub mod Linear
 pub mod Midpoint
 pub mod Ranges
+pub mod NewTables
+pub mod MemberTables
+pub mod Demanded
+pub mod Amounts

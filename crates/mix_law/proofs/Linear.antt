@@ -1,33 +1,11 @@
 -- Linear functions, and what is kept where one is added, or where two functions are.
 use mathlib.Core.Path.{fun_ext}
-use Rattle.std.proofs.Common.{Bool, true, false, cond, ◌≡◌, ℕ, zero, suc, ◌<◌, ℤ, pos, ◌+ℤ◌, ◌-ℤ◌, ◌*ℤ◌, ◌≤ℤ◌, refl, arith, ap}
+use Rattle.std.proofs.Common.{Bool, true, false, cond, ◌≡◌, ℕ, zero, suc, ℤ, pos, ◌+ℤ◌, ◌-ℤ◌, ◌*ℤ◌, ◌≤ℤ◌, arith, ap}
 use Rattle.std.proofs.lemmas.Int.{ints}
-use Rattle.std.proofs.Math.IntN.{*ℤ_comm}
-use Rattle.mix_num.specs.Vectors.{Vector, Choices, bit, plus, only, shifted, ray, sum_to, dot_to}
+use Rattle.mix_num.specs.Vectors.{Vector, Choices, bit, plus, only, ray, sum_to}
 use Rattle.mix_num.proofs.Products.{*ℤ-sum, *ℤ-difference}
+use Rattle.mix_num.proofs.Costs.{dot_plus, dot_same, dot_shifted}
 use Rattle.mix_law.specs.Members.{KeepsLocal, fall_of, tilted}
-
--- a linear function reads the first m entries
-pub dot_same : (m : ℕ) (q x y : Vector) → ((k : ℕ) → k < m → x k ≡ y k) → dot_to m q x ≡ dot_to m q y
-dot_same zero q x y h = refl
-dot_same (suc m) q x y h =
-    let a = dot_same m q x y (λ k l. h k (omega arith)) in
-    let b = ap (λ z. q m *ℤ z) (h m (omega arith)) in
-    omega (arith, ints)
-
--- it gains what is added to the entries
-pub dot_plus : (m : ℕ) (q x d : Vector) → dot_to m q (λ k. x k +ℤ d k) ≡ dot_to m q x +ℤ dot_to m q d
-dot_plus zero q x d = omega (arith, ints)
-dot_plus (suc m) q x d = let a = dot_plus m q x d in let b = *ℤ-sum (q m) (x m) (d m) in omega (arith, ints)
-
-pub dot_shifted : (m : ℕ) (q x : Vector) (k : ℤ) → dot_to m q (shifted x k) ≡ dot_to m q x +ℤ (k *ℤ sum_to m q)
-dot_shifted zero q x k = omega (arith, ints)
-dot_shifted (suc m) q x k =
-    let a = dot_shifted m q x k in
-    let b = *ℤ-sum (q m) (x m) k in
-    let d = *ℤ-sum k (sum_to m q) (q m) in
-    let e = *ℤ_comm k (q m) in
-    omega (arith, ints)
 
 -- a linear function added takes the sum of its coefficients from the total
 pub plus_linear : {n : ℕ} {f : Vector → ℤ} {w : ℤ} (q : Vector) → KeepsLocal n f w → KeepsLocal n (tilted n f q) (w -ℤ sum_to (suc n) q)

@@ -2,3 +2,4 @@ pub mod Members
 pub mod Totals
 pub mod Sums
 pub mod Demands
+pub mod Scales

@@ -31,6 +31,12 @@ pub record KeepsLocal (n : ℕ) (f : Vector → ℤ) (total : ℤ) : Type 0 wher
 pub keeps_local : {n : ℕ} {f : Vector → ℤ} {total : ℤ} {top : ℕ → ℤ} → IsConvex n f total top → KeepsLocal n f total
 keeps_local c = record { reads = c.reads; shift = c.shift; local = c.local }
 
+-- a function that keeps the laws of a member over n goods, with some total and some tops
+pub record KeepsLaws (n : ℕ) (f : Vector → ℤ) : Type 0 where
+  pub total : ℤ
+  pub top : ℕ → ℤ
+  pub convex : IsConvex n f total top
+
 -- by how much a function falls when the members of a set are raised by one
 abbrev pub fall_of : (Vector → ℤ) → Vector → Choices → ℤ
 fall_of f x s = f x -ℤ f (plus x s)

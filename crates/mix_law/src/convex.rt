@@ -1,10 +1,11 @@
 // What every member of the market can be asked, and the laws that its answers keep.
-ghost use Rattle.std.specs.Prelude.{◌≡◌, ◌≤◌, ℕ, ℤ, pos, false, ◌-ℤ◌, ◌*ℤ◌, ◌≤ℤ◌};
-ghost use Rattle.mix_num.specs.Vectors.{Vector, members, ray, with_null};
+ghost use Rattle.std.specs.Prelude.{◌≡◌, ◌≤◌, ◌<◌, ◌^◌, ℕ, ℤ, suc, pos, false, ◌+ℤ◌, ◌-ℤ◌, ◌*ℤ◌, ◌≤ℤ◌};
+ghost use Rattle.mix_num.specs.Vectors.{Choices, Vector, members, ray, with_null};
 ghost use Rattle.mix_num.specs.Ranges.{HaveRoom, Lies};
+ghost use Rattle.mix_num.specs.Tables.{number_of};
 ghost use Rattle.mix_law.specs.Members.{IsConvex, fall_of, rho};
 
-use mix_num::{Prices, Set};
+use mix_num::{Prices, Set, SetTable};
 
 /// A member of the market: a convex function of the prices of all choices, the null choice's among them.
 ///
@@ -21,6 +22,9 @@ pub trait Convex {
 
     /// The function, over a price for each choice.
     ghost function: { Self → Vector → ℤ };
+
+    /// The number of steps that [`Convex::reach`] tells, at a price for each choice, of a set of goods.
+    ghost span: { Self → Vector → Choices → ℤ };
 
     ghost convex: { (member : Self) → IsConvex (size member) (function member) (weight member) (ceiling member) };
 
@@ -58,12 +62,47 @@ pub trait Convex {
         ensures value { result ≡ rho (function self.now) (with_null prices.now.items) (members set) }
         ensures range { (pos 0 ≤ℤ result) × (result ≤ℤ weight self.now) };
 
-    /// A number of steps, from 1 to 8,000,000, over which a set of goods makes the function fall equally at each.
+    /// A number of steps, from 1 to 8,000,000, over which a set of goods makes the function fall equally at each: the span.
     fn reach(&self, prices: &Prices, set: Set) -> i64
         requires prices { HaveRoom (size self.now) prices.now.items }
         requires goods { members set 0 ≡ false }
+        ensures value { result ≡ span self.now (with_null prices.now.items) (members set) }
         ensures range { (pos 1 ≤ℤ result) × (result ≤ℤ pos 8000000) }
         ensures linear { (m : ℕ) → pos m ≤ℤ result →
             function self.now (ray (with_null prices.now.items) m (members set))
             ≡ function self.now (with_null prices.now.items) -ℤ (pos m *ℤ fall_of (function self.now) (with_null prices.now.items) (members set)) };
+
+    /// Adds to the number of each set of the choices 0 to n what [`Convex::fall`] gives of the set; other numbers stay.
+    ///
+    /// Each sum lies from -4,000,000,000 to 4,000,000,000.
+    fn falls(&self, prices: &Prices, out: &mut SetTable)
+        requires prices { HaveRoom (size self.now) prices.now.items }
+        requires range { (set : ℕ) → set < 2 ^ suc (size self.now) →
+            Lies 4000000000 (number_of out.old set +ℤ fall_of (function self.now) (with_null prices.now.items) (members set)) }
+        ensures sums { (set : ℕ) → set < 2 ^ suc (size self.now) →
+            number_of out.new set ≡ number_of out.old set +ℤ fall_of (function self.now) (with_null prices.now.items) (members set) }
+        ensures others { (set : ℕ) → 2 ^ suc (size self.now) ≤ set → number_of out.new set ≡ number_of out.old set }
+    {
+        for bits in 0..Set::whole(self.goods()).bits() + 1 {
+            let set = Set::from_bits(bits);
+            out.add(set, self.fall(prices, set));
+        }
+    }
+
+    /// Adds to the number of each set of the choices 0 to n what [`Convex::gain_down`] gives of the set; other numbers stay.
+    ///
+    /// Each sum lies from -4,000,000,000 to 4,000,000,000.
+    fn gains(&self, prices: &Prices, out: &mut SetTable)
+        requires prices { HaveRoom (size self.now) prices.now.items }
+        requires range { (set : ℕ) → set < 2 ^ suc (size self.now) →
+            Lies 4000000000 (number_of out.old set +ℤ rho (function self.now) (with_null prices.now.items) (members set)) }
+        ensures sums { (set : ℕ) → set < 2 ^ suc (size self.now) →
+            number_of out.new set ≡ number_of out.old set +ℤ rho (function self.now) (with_null prices.now.items) (members set) }
+        ensures others { (set : ℕ) → 2 ^ suc (size self.now) ≤ set → number_of out.new set ≡ number_of out.old set }
+    {
+        for bits in 0..Set::whole(self.goods()).bits() + 1 {
+            let set = Set::from_bits(bits);
+            out.add(set, self.gain_down(prices, set));
+        }
+    }
 }

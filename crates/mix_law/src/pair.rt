@@ -27,6 +27,7 @@ impl<A: Convex, B: Convex> Pair<A, B> {
 
 /// The sum of the two functions.
 impl<A: Convex, B: Convex> Convex for Pair<A, B> {
+    ghost use Rattle.std.specs.Int.{int_min};
     ghost use Rattle.std.specs.Prelude.{◌+ℤ◌};
     ghost use Rattle.mix_law.specs.Sums.{greater_top, sum_convex};
 
@@ -37,6 +38,8 @@ impl<A: Convex, B: Convex> Convex for Pair<A, B> {
     ghost ceiling = { λ pair. greater_top (A.ceiling pair.first) (B.ceiling pair.second) };
 
     ghost function = { λ pair x. A.function pair.first x +ℤ B.function pair.second x };
+
+    ghost span = { λ pair x set. int_min (A.span pair.first x set) (B.span pair.second x set) };
 
     ghost convex = { λ pair. sum_convex pair.same_goods (A.convex pair.first) (B.convex pair.second) };
 

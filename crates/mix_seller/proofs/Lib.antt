@@ -1,2 +1,4 @@
 mod Steps
 mod Choices
+mod LongFalls
+pub mod SellerRows

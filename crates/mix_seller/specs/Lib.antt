@@ -1,2 +1,3 @@
 pub mod Sellers
 pub mod Laws
+pub mod Reaches

@@ -2,7 +2,7 @@
 ghost use Rattle.mix_num.specs.Sellers.{IsForSale};
 
 use crate::copies::copy;
-use crate::units::{gains, left, loses, supply_where, weigh};
+use crate::units::{gains, left, loses, span, supply_where, weigh};
 use mix_law::Convex;
 use mix_num::{Bundle, Prices, Set};
 
@@ -53,6 +53,7 @@ impl Seller {
     ghost use Rattle.mix_num.specs.Ranges.{HaveRoom};
     ghost use Rattle.mix_num.specs.Sellers.{unit_gain};
     ghost use Rattle.mix_num.specs.Vectors.{members, minus, plus, with_null};
+    ghost use Rattle.mix_seller.specs.Reaches.{good_span};
 
     /// What all units of the good at place `k`, counted from 0, leave.
     fn left_at(&self, prices: &Prices, k: usize) -> i64
@@ -87,14 +88,26 @@ impl Seller {
         let test = gains(self.reserve[k], prices[k], set.has(0), set.has(k + 1));
         supply_where(test, self.supply[k])
     }
+
+    /// Over how many steps of the set all units of that good lose equally.
+    fn span_at(&self, prices: &Prices, set: Set, k: usize) -> i64
+        requires prices { HaveRoom (length (supply_of self.now)) prices.now.items }
+        requires place { k < length (supply_of self.now) }
+        ensures value { result ≡ good_span (members set (suc k)) (with_null (supply_of self.now) (suc k)) (with_null (reserve_of self.now) (suc k)) (with_null prices.now.items (suc k)) }
+        ensures range { (pos 1 ≤ℤ result) × (result ≤ℤ pos 8000000) }
+    {
+        span(set.has(k + 1), self.supply[k], self.reserve[k], prices[k])
+    }
 }
 
 /// The value is the sum, over the goods, of the supply times what the reserve is above the price, the total is all units, and the tops are the reserves.
+/// The reach is the least that a reserve is above its price, of the goods of the set that are for sale and priced below their reserves.
 impl Convex for Seller {
     ghost use Rattle.std.specs.Prelude.{length};
     ghost use Rattle.mix_num.specs.Sellers.{units, seller_gain};
     ghost use Rattle.mix_num.specs.Vectors.{with_null};
     ghost use Rattle.mix_seller.specs.Laws.{seller_convex};
+    ghost use Rattle.mix_seller.specs.Reaches.{seller_span};
 
     ghost size = { λ seller. length seller.supply.items };
 
@@ -103,6 +116,8 @@ impl Convex for Seller {
     ghost ceiling = { λ seller. with_null seller.reserve.items };
 
     ghost function = { λ seller. seller_gain seller.supply.items seller.reserve.items };
+
+    ghost span = { λ seller. seller_span seller.supply.items seller.reserve.items };
 
     ghost convex = { λ seller. seller_convex seller.supply.items seller.reserve.items seller.for_sale };
 
@@ -146,7 +161,11 @@ impl Convex for Seller {
         sum
     }
 
-    fn reach(&self, _prices: &Prices, _set: Set) -> i64 {
-        1
+    fn reach(&self, prices: &Prices, set: Set) -> i64 {
+        let mut least: i64 = 8_000_000;
+        for k in 0..self.supply.len() {
+            least = least.min(self.span_at(prices, set, k));
+        }
+        least
     }
 }

@@ -7,7 +7,7 @@ ghost use Rattle.mix_seller.specs.Sellers.{supply_of};
 
 use crate::seller::Seller;
 use mix_law::{Convex, Pair, laws};
-use mix_num::{Bundle, Prices, Set};
+use mix_num::{Bundle, Prices, Set, SetTable};
 use std::test::Fail;
 
 /// Prices of weak and strong.
@@ -55,7 +55,7 @@ fn asked<D: Convex>(member: &D, weak: i64, strong: i64, set: Set) -> (i64, i64, 
     )
 }
 
-/// A length over which a set of goods makes the function fall equally.
+/// How many steps a set of goods makes the function fall equally.
 fn reach<D: Convex>(member: &D, weak: i64, strong: i64, set: Set) -> i64
     requires size { D.size member.now ≡ 2 }
     requires goods { members set 0 ≡ false }
@@ -63,6 +63,21 @@ fn reach<D: Convex>(member: &D, weak: i64, strong: i64, set: Set) -> i64
     requires strong { Lies 3999999 strong }
 {
     member.reach(&prices(weak, strong), set)
+}
+
+/// The total, and the fall and the gain of a set, both read from the tables of all sets.
+fn swept<D: Convex>(member: &D, weak: i64, strong: i64, set: Set) -> (i64, i64, i64)
+    requires size { D.size member.now ≡ 2 }
+    requires weak { Lies 3999999 weak }
+    requires strong { Lies 3999999 strong }
+{
+    let prices = prices(weak, strong);
+    let total = member.total();
+    let mut falls = SetTable::new();
+    member.falls(&prices, &mut falls);
+    let mut gains = SetTable::new();
+    member.gains(&prices, &mut gains);
+    (total, falls.at(set), gains.at(set))
 }
 
 #[test]
@@ -76,7 +91,14 @@ fn a_seller_is_asked(rt: HostRuntime) -> Result<(), Fail> {
     assert_eq!(rt; asked(&seller, 7, 15, Set::from_bits(1)), (90, 0, 20));
     assert_eq!(rt; asked(&seller, 12, 20, Set::from_bits(6)), (0, 0, 0));
     assert_eq!(rt; asked(&seller, 12, 20, Set::from_bits(1)), (0, 50, 50));
-    assert!(rt; reach(&seller, 7, 12, Set::from_bits(2)) >= 1);
+    assert_eq!(rt; swept(&seller, 7, 15, Set::from_bits(5)), (50, 20, 20));
+    assert_eq!(rt; swept(&seller, 7, 15, Set::from_bits(1)), (50, 0, 20));
+    assert_eq!(rt; swept(&seller, 7, 15, Set::from_bits(8)), (50, 0, 0));
+    let rows = [(2, 3), (4, 2), (6, 2), (0, 8_000_000)];
+    for (bits, steps) in rows {
+        assert_eq!(rt; reach(&seller, 7, 13, Set::from_bits(bits)), steps);
+    }
+    assert_eq!(rt; reach(&seller, 12, 13, Set::from_bits(2)), 8_000_000);
     Ok(())
 }
 
@@ -91,6 +113,8 @@ fn two_sellers_are_asked_as_one(rt: HostRuntime) -> Result<(), Fail> {
     laws::slopes(&pair);
     assert_eq!(rt; size(&pair), (2, 55, 10, 20));
     assert_eq!(rt; asked(&pair, 7, 15, Set::from_bits(3)), (95, 34, 54));
-    assert!(rt; reach(&pair, 7, 15, Set::from_bits(2)) >= 1);
+    assert_eq!(rt; swept(&pair, 7, 15, Set::from_bits(3)), (55, 34, 54));
+    assert_eq!(rt; reach(&pair, 3, 16, Set::from_bits(2)), 4);
+    assert_eq!(rt; reach(&pair, 7, 16, Set::from_bits(2)), 3);
     Ok(())
 }

@@ -4,6 +4,7 @@ ghost use Rattle.std.specs.Int.{int_max};
 ghost use Rattle.mix_num.specs.Ranges.{Lies};
 ghost use Rattle.mix_num.specs.Sellers.{IsAmount};
 ghost use Rattle.mix_num.specs.Vectors.{bit};
+ghost use Rattle.mix_seller.specs.Reaches.{good_span};
 
 use std::cmp::Ordering;
 
@@ -59,5 +60,19 @@ pub fn gains(reserve: i64, price: i64, null: bool, good: bool) -> bool
         Ordering::Greater => null,
         Ordering::Equal => null || good,
         Ordering::Less => good,
+    }
+}
+
+/// How far the reserve is above the price, where the good is in the set, is for sale and has a reserve above its price; else 8,000,000.
+pub fn span(within: bool, supply: i64, reserve: i64, price: i64) -> i64
+    requires reserve { IsAmount reserve }
+    requires price { Lies 3999999 price }
+    ensures value { result ≡ good_span within supply reserve price }
+    ensures range { (pos 1 ≤ℤ result) × (result ≤ℤ pos 8000000) }
+{
+    if within && supply > 0 && reserve > price {
+        reserve - price
+    } else {
+        8_000_000
     }
 }
