@@ -1,14 +1,16 @@
--- No good rises past 1,000,000: from there on no member wants it, so it is in no minimal steepest set.
-use Rattle.std.proofs.Common.{◌≡◌, ℕ, suc, ◌<◌, Bool, true, false, cond, List, length, get_or, All, ℤ, pos, ◌+ℤ◌, ◌-ℤ◌, ◌≤ℤ◌, ◌<ℤ◌, int_lt, refl, arith, ap, eq-eqb}
-use Rattle.std.proofs.lemmas.Int.{ints}
+-- No good rises past 1,000,000, nor past the members' tops: from there on no member wants it, so it is in no minimal steepest set.
+use Rattle.std.proofs.Common.{◌≡◌, ℕ, zero, suc, ◌≤◌, ◌<◌, Bool, true, false, cond, eqb, All, ℤ, pos, ◌+ℤ◌, ◌-ℤ◌, ◌≤ℤ◌, ◌<ℤ◌, int_lt, refl, arith, ap, eq-eqb, eqb-true}
+use Rattle.std.proofs.lemmas.Int.{ints, clamps}
 use Rattle.std.proofs.Math.Dec.{eqb-zero-suc}
-use Rattle.std.proofs.lemmas.List.{get_or_default}
-use Rattle.mix_num.specs.Vectors.{Vector, Choices, bit, plus, Agree, with_null}
-use Rattle.mix_num.specs.Ranges.{AreWithin, Lies}
+use Rattle.std.specs.Int.{int_max}
+use Rattle.mix_num.specs.Vectors.{Vector, Choices, bit, plus, minus, only}
 use Rattle.mix_law.specs.declared.convex.Convex.{Ghosts}
 use Rattle.mix_market.specs.declared.market.Market.{Market}
+use Rattle.mix_market.specs.Extremes.{greatest_of}
+use Rattle.mix_market.specs.Lyapunov.{IsBelow, IsLeastPoint}
 use Rattle.mix_market.specs.Markets.{members_of, seller_of, goods_of, lyapunov_of}
 use Rattle.mix_market.specs.Steepest.{IsMinimalSteepest}
+use Rattle.mix_market.proofs.MemberExtremes.{greatest_covers}
 use Rattle.mix_market.proofs.MarketFacts.{market_keeps, market_far}
 use Rattle.mix_descent.proofs.Climbs.{not_wanted, without}
 
@@ -31,24 +33,42 @@ module _ {D : Type 0} {g : Ghosts D} (market : Market D g) where
           let high : pos 1000000 ≤ℤ x (suc k) = grind (arith, ints) in
           let tops = market.priced in
           let top = tops.ranges.1 k (pos 0) (omega arith) in
-          let tired : All (λ member. g.ceiling member (suc k) ≤ℤ (plus x fewer (suc k) -ℤ plus x fewer 0)) (members_of market) = λ j d l. let u = tops.above k h j d l in omega (arith, ints, own, base) in
+          let tired : All (λ member. g.ceiling member (suc k) ≤ℤ (plus x fewer (suc k) -ℤ plus x fewer 0)) (members_of market) = λ j d l. let u = greatest_covers (λ member. g.ceiling member (suc k)) (members_of market) j d l in let e = tops.greatest k h in omega (arith, ints, own, base) in
           let far = market_far market (plus x fewer) (suc k) (omega arith) h tired in
           let supply = (seller_of market).for_sale.supplies.1 k (pos 0) h in
           absurd (not_wanted (market_keeps market) x s m (suc k) h (omega (arith, ints)) inside)
 
--- one least step keeps the prices within 1,000,000
-pub raised_within : (n : ℕ) (old new : List ℤ) (s : Choices) → AreWithin 1000000 n old → length new ≡ length old → Agree (length old) (with_null new) (plus (with_null old) s) → ((k : ℕ) → k < n → s (suc k) ≡ true → with_null old (suc k) <ℤ pos 1000000) → AreWithin 1000000 n new
-raised_within n old new s w count same low = (
-  omega arith,
-  λ k d h.
-      let at_zero = get_or_default new k d (pos 0) h in
-      let inside : k < length old = omega arith in
-      let range = w.1 k (pos 0) inside in
-      let now = same (suc k) inside in
-      let b = step (get_or old k (pos 0)) (s (suc k)) range (low k (omega arith)) in
-      (omega (arith, ints), omega (arith, ints)),
-)
-  where
-    step : (a : ℤ) (b : Bool) → Lies 1000000 a → (b ≡ true → a <ℤ pos 1000000) → Lies 1000000 (a +ℤ bit b)
-    step a true l h = let below = h refl in (omega (arith, ints), omega (arith, ints))
-    step a false l h = (omega (arith, ints), omega (arith, ints))
+  -- no good of a least point is above both its start and the members' tops
+  pub least_below_tops : (start p : Vector) → p 0 ≡ pos 0 → IsLeastPoint (goods_of market) (lyapunov_of market) start p → (good : ℕ) → 1 ≤ good → good ≤ goods_of market → p good ≤ℤ int_max (start good) (greatest_of (λ member. g.ceiling member good) (members_of market))
+  least_below_tops start p null least zero some few = absurd (omega arith)
+  least_below_tops start p null least (suc k) some few = at (int_lt (int_max (start (suc k)) (greatest_of (λ member. g.ceiling member (suc k)) (members_of market))) (p (suc k))) refl
+    where
+      fewer : Vector
+      fewer = minus p (only (suc k))
+
+      own : fewer (suc k) ≡ p (suc k) -ℤ pos 1
+      own = ap (λ (b : Bool). p (suc k) -ℤ bit b) (eq-eqb (suc k) (suc k) refl)
+
+      base : fewer 0 ≡ pos 0
+      base = let e = ap (λ (b : Bool). p 0 -ℤ bit b) (eqb-zero-suc k) in omega (arith, ints)
+
+      at : (b : Bool) → int_lt (int_max (start (suc k)) (greatest_of (λ member. g.ceiling member (suc k)) (members_of market))) (p (suc k)) ≡ b
+          → p (suc k) ≤ℤ int_max (start (suc k)) (greatest_of (λ member. g.ceiling member (suc k)) (members_of market))
+      at false e = grind (arith, ints)
+      at true e =
+          let high : int_max (start (suc k)) (greatest_of (λ member. g.ceiling member (suc k)) (members_of market)) <ℤ p (suc k) = grind (arith, ints) in
+          let above : IsBelow (goods_of market) start fewer = λ j i. lower_good (start j) (p j) (eqb j (suc k)) (least.above j i) (λ q. let same = ap (λ (v : ℕ). p v -ℤ start v) (eqb-true j (suc k) q) in omega (arith, ints, clamps)) in
+          let tired : All (λ member. g.ceiling member (suc k) ≤ℤ (fewer (suc k) -ℤ fewer 0)) (members_of market) = λ j d l. let u = greatest_covers (λ member. g.ceiling member (suc k)) (members_of market) j d l in omega (arith, ints, clamps, own, base) in
+          let far = market_far market fewer (suc k) some few tired in
+          let back = (market_keeps market).reads p (plus fewer (only (suc k))) (λ j i. put_on (p j) (eqb j (suc k))) in
+          let supply = (seller_of market).for_sale.supplies.1 k (pos 0) (omega arith) in
+          let low = least.least fewer base above in
+          let lowest = least.lowest fewer base above (omega (arith, ints)) (suc k) few in
+          absurd (omega (arith, ints, lowest, own))
+        where
+          lower_good : (a b : ℤ) (s : Bool) → a ≤ℤ b → (s ≡ true → a <ℤ b) → a ≤ℤ (b -ℤ bit s)
+          lower_good a b true h f = let l = f refl in omega (arith, ints)
+          lower_good a b false h f = omega (arith, ints)
+
+          put_on : (a : ℤ) (s : Bool) → a ≡ (a -ℤ bit s) +ℤ bit s
+          put_on a s = omega (arith, ints)

@@ -1,3 +1,7 @@
 mod Climbs
 mod Rooms
 mod Bounds
+mod Stretches
+mod Landings
+pub mod Straights
+pub mod TrailFacts

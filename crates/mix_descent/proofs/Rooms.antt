@@ -1,5 +1,5 @@
 -- How far prices may still rise, and that a least step leaves less room.
-use Rattle.std.proofs.Common.{◌≡◌, ℕ, zero, suc, ◌+◌, ◌<◌, Bool, true, false, cond, ℤ, pos, ◌+ℤ◌, ◌-ℤ◌, ◌<ℤ◌, refl, arith, ap, ap₂, ◌∙◌, ◌⊎◌, inl, inr, eq-or-lt_of_le, sym, eqb}
+use Rattle.std.proofs.Common.{◌≡◌, ℕ, zero, suc, ◌+◌, ◌<◌, ◌≤◌, Bool, true, false, cond, ℤ, pos, ◌+ℤ◌, ◌-ℤ◌, ◌<ℤ◌, ◌≤ℤ◌, refl, arith, ap, ap₂, ◌∙◌, ◌⊎◌, inl, inr, eq-or-lt_of_le, sym, eqb}
 use Rattle.std.proofs.lemmas.Int.{ints, clamps}
 use Rattle.mix_num.specs.Vectors.{Vector, Choices, bit, plus, members, Agree}
 use Rattle.mix_num.specs.Moves.{IsSetOfGoods}
@@ -55,3 +55,13 @@ some_good n set goods some = at (count n (members set)) refl
     at : (m : ℕ) → count n (members set) ≡ m → 0 < m
     at zero e = absurd (some (same_members (n + 1) set 0 goods.0 (pow_pos (n + 1)) (none e)))
     at (suc m) e = omega arith
+
+-- the higher the prices, the less room
+pub room-less : (n : ℕ) (x y : Vector) → ((k : ℕ) → k < n → x (suc k) ≤ℤ y (suc k)) → room n y ≤ room n x
+room-less zero x y h = omega arith
+room-less (suc n) x y h =
+    let rest = room-less n x y (λ k l. h k (omega arith)) in
+    let one = h n (omega arith) in
+    let a = over_is (pos 1000000 -ℤ x (suc n)) in
+    let b = over_is (pos 1000000 -ℤ y (suc n)) in
+    omega (arith, ints, clamps)

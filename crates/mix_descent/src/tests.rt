@@ -4,7 +4,7 @@ ghost use Rattle.mix_num.specs.Ranges.{AreWithin};
 ghost use Rattle.mix_num.specs.Sellers.{AreAmounts, IsAmount};
 ghost use Rattle.mix_market.specs.Markets.{goods_of};
 
-use crate::descend;
+use crate::{LongStep, descend, trail};
 use mix_law::Convex;
 use mix_market::{Market, Seller};
 use mix_num::{Bundle, Prices, Set};
@@ -27,13 +27,16 @@ fn pair(first: i64, second: i64) -> Bundle
     both
 }
 
-/// A member of a type of these tests alone: whoever keeps the laws may climb.
+/// A member of a type of these tests alone, since whoever keeps the laws may climb. It tells at most two steps at a time.
 #[derive(Drop)]
 struct Taker<D: Convex> {
     taken: D,
 }
 
 impl<D: Convex> Convex for Taker<D> {
+    ghost use Rattle.std.specs.Int.{int_min};
+    ghost use Rattle.std.specs.Prelude.{pos};
+
     ghost size = { λ taker. D.size taker.taken };
 
     ghost weight = { λ taker. D.weight taker.taken };
@@ -41,6 +44,8 @@ impl<D: Convex> Convex for Taker<D> {
     ghost ceiling = { λ taker. D.ceiling taker.taken };
 
     ghost function = { λ taker. D.function taker.taken };
+
+    ghost span = { λ taker x set. int_min (D.span taker.taken x set) (pos 2) };
 
     ghost convex = { λ taker. D.convex taker.taken };
 
@@ -69,7 +74,7 @@ impl<D: Convex> Convex for Taker<D> {
     }
 
     fn reach(&self, prices: &Prices, set: Set) -> i64 {
-        self.taken.reach(prices, set)
+        self.taken.reach(prices, set).min(2)
     }
 }
 
@@ -115,6 +120,46 @@ fn climbs_to_the_least_point(rt: HostRuntime) -> Result<(), Fail> {
     for (first, second, last_first, last_second) in rows {
         let end = end_of::<Brand>(&market, &pair(first, second), Blank::new(1));
         assert_eq!(rt; end.as_slice(), [last_first, last_second].as_slice());
+    }
+    Ok(())
+}
+
+#[test]
+fn makes_long_steps(rt: HostRuntime) -> Result<(), Fail> {
+    let market = market(rt.alloc())?;
+    let climb = trail(rt.alloc(), &market)?;
+    assert_eq!(rt; climb.prices.as_slice(), [7, 4].as_slice());
+    let rows = [(6, 3, -3), (6, 1, -2), (2, 1, -1)];
+    assert_eq!(rt; climb.steps.len(), rows.len());
+    for (place, (bits, length, slope)) in rows.iter().enumerate() {
+        if place < climb.steps.len() {
+            let step = LongStep {
+                set: Set::from_bits(*bits),
+                length: *length,
+                slope: *slope,
+            };
+            assert_eq!(rt; *climb.steps.get(place), step);
+        }
+    }
+    Ok(())
+}
+
+#[test]
+fn makes_the_longest_step(rt: HostRuntime) -> Result<(), Fail> {
+    let mut members = Vec::new(rt.alloc());
+    members.push(Seller::new(&pair(1, 0), &pair(1_000_000, 0)))?;
+    members.push(Seller::new(&pair(1, 0), &pair(1_000_000, 0)))?;
+    let market = Market::new(members, Seller::new(&pair(1, 0), &pair(0, 0)));
+    let climb = trail(rt.alloc(), &market)?;
+    assert_eq!(rt; climb.prices.as_slice(), [1_000_000, 0].as_slice());
+    assert_eq!(rt; climb.steps.len(), 1);
+    if climb.steps.len() == 1 {
+        let step = LongStep {
+            set: Set::from_bits(2),
+            length: 1_000_000,
+            slope: -1,
+        };
+        assert_eq!(rt; *climb.steps.get(0), step);
     }
     Ok(())
 }

@@ -1,4 +1,7 @@
-mod MemberSums
+pub mod MemberSums
+pub mod MemberExtremes
 mod Costs
+pub mod GoodsSets
+mod SlopeTables
 pub mod MarketLaws
 pub mod MarketFacts

@@ -9,9 +9,10 @@ use Rattle.std.proofs.lemmas.List.Elements.{All-head, All-tail}
 use Rattle.mix_num.proofs.Products.{*ℤ-sum, *ℤ-difference}
 use Rattle.mix_num.specs.Vectors.{Vector, Choices, bit, plus, only, members as numbered, ray, dot_to, with_null, sum_to}
 use Rattle.mix_law.specs.Members.{IsConvex, KeepsLocal, keeps_local, fall_of}
-use Rattle.mix_law.proofs.Linear.{dot_plus, plus_linear, sum_keeps}
+use Rattle.mix_num.proofs.Costs.{dot_plus}
+use Rattle.mix_law.proofs.Linear.{plus_linear, sum_keeps}
 use Rattle.mix_market.specs.Lyapunov.{sum_of, lyapunov}
-use Rattle.mix_market.specs.Memberships.{total_weight}
+use Rattle.mix_market.specs.Memberships.{sum_of_totals}
 use Rattle.mix_market.specs.Steepest.{slope_of}
 
 pub lyapunov-is : (functions : List (Vector → ℤ)) (supply : List ℤ) (x : Vector) → lyapunov functions supply x ≡ sum_of functions x +ℤ dot_to (suc (length supply)) (with_null supply) x
@@ -66,7 +67,7 @@ lyapunov_linear functions supply x s m h =
     omega (arith, ints)
 
 -- the sum of the members' functions keeps what each of them does
-members_keep : {D : Type 0} {size : D → ℕ} {f : D → Vector → ℤ} {weight : D → ℤ} {top : D → ℕ → ℤ} (convex : (member : D) → IsConvex (size member) (f member) (weight member) (top member)) (n : ℕ) (members : List D) → All (λ member. size member ≡ n) members → KeepsLocal n (sum_of (map f members)) (total_weight weight members)
+members_keep : {D : Type 0} {size : D → ℕ} {f : D → Vector → ℤ} {weight : D → ℤ} {top : D → ℕ → ℤ} (convex : (member : D) → IsConvex (size member) (f member) (weight member) (top member)) (n : ℕ) (members : List D) → All (λ member. size member ≡ n) members → KeepsLocal n (sum_of (map f members)) (sum_of_totals weight members)
 members_keep convex n [] h = record {
   reads = λ x y e. refl;
   shift = λ x k. omega (arith, ints);
@@ -114,7 +115,7 @@ dot_only q (suc m) i h = at (eqb_tells m i) (λ l. dot_only q m i l)
         omega (arith, ints)
 
 -- the Lyapunov function keeps the local law, with what the members' totals exceed the supply by
-pub lyapunov_keeps : {D : Type 0} {size : D → ℕ} {f : D → Vector → ℤ} {weight : D → ℤ} {top : D → ℕ → ℤ} (convex : (member : D) → IsConvex (size member) (f member) (weight member) (top member)) (members : List D) (supply : List ℤ) → All (λ member. size member ≡ length supply) members → KeepsLocal (length supply) (lyapunov (map f members) supply) (total_weight weight members -ℤ sum_to (suc (length supply)) (with_null supply))
+pub lyapunov_keeps : {D : Type 0} {size : D → ℕ} {f : D → Vector → ℤ} {weight : D → ℤ} {top : D → ℕ → ℤ} (convex : (member : D) → IsConvex (size member) (f member) (weight member) (top member)) (members : List D) (supply : List ℤ) → All (λ member. size member ≡ length supply) members → KeepsLocal (length supply) (lyapunov (map f members) supply) (sum_of_totals weight members -ℤ sum_to (suc (length supply)) (with_null supply))
 unfolding lyapunov
 lyapunov_keeps convex members supply h = plus_linear (with_null supply) (members_keep convex (length supply) members h)
 

@@ -1,4 +1,5 @@
 pub mod Lyapunov
 pub mod Steepest
+pub mod Extremes
 pub mod Memberships
 pub mod Markets

@@ -1,6 +1,7 @@
 -- What holds of the members of a market.
 use Rattle.std.specs.Prelude.{◌≡◌, ℕ, suc, ◌≤◌, ◌<◌, List, [], ◌∷◌, ℤ, pos, ◌+ℤ◌, ◌≤ℤ◌, length, All, get_or}
 use Rattle.mix_num.specs.Ranges.{AreWithin}
+use Rattle.mix_market.specs.Extremes.{greatest_of}
 
 -- how many members there may be, the goods of each, and the range of each total
 pub record AreMembers {D : Type 0} (size : D → ℕ) (weight : D → ℤ) (n : ℕ) (members : List D) : Type 0 where
@@ -8,12 +9,12 @@ pub record AreMembers {D : Type 0} (size : D → ℕ) (weight : D → ℤ) (n : 
   pub same_goods : All (λ member. size member ≡ n) members
   pub totals : All (λ member. (pos 0 ≤ℤ weight member) × (weight member ≤ℤ pos 8000000)) members
 
--- for each of n goods a price from which on no member wants it
+-- for each of n goods the greatest of the members' tops
 pub record AreTops {D : Type 0} (ceiling : D → ℕ → ℤ) (n : ℕ) (members : List D) (tops : List ℤ) : Type 0 where
   pub ranges : AreWithin 1000000 n tops
-  pub above : (good : ℕ) → good < n → All (λ member. ceiling member (suc good) ≤ℤ get_or tops good (pos 0)) members
+  pub greatest : (good : ℕ) → good < n → get_or tops good (pos 0) ≡ greatest_of (λ member. ceiling member (suc good)) members
 
 -- the sum of the members' totals
-abbrev pub total_weight : {D : Type 0} → (D → ℤ) → List D → ℤ
-total_weight weight [] = pos 0
-total_weight weight (member ∷ members) = weight member +ℤ total_weight weight members
+abbrev pub sum_of_totals : {D : Type 0} → (D → ℤ) → List D → ℤ
+sum_of_totals weight [] = pos 0
+sum_of_totals weight (member ∷ members) = weight member +ℤ sum_of_totals weight members

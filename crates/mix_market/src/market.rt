@@ -1,13 +1,13 @@
 // The members and the seller of one auction.
 ghost use Rattle.std.specs.Prelude.{◌≡◌, ◌≤◌, length, All};
 ghost use Rattle.mix_seller.specs.Sellers.{supply_of};
-ghost use Rattle.mix_market.specs.Memberships.{AreMembers, AreTops, total_weight};
+ghost use Rattle.mix_market.specs.Memberships.{AreMembers, AreTops, sum_of_totals};
 
 use crate::sums;
 use crate::supply::{cost, supplied};
 use arrayvec::ArrayVec;
 use mix_law::Convex;
-use mix_num::{Prices, Set};
+use mix_num::{Prices, Set, SetTable};
 use mix_seller::Seller;
 
 /// At most 256 members and a seller, all over the same goods.
@@ -18,7 +18,7 @@ pub struct Market<D: Convex> {
     total: i64,
     tops: Prices,
     pub ghost membership: { AreMembers D.size D.weight (length (supply_of seller)) members.items },
-    pub ghost summed: { total ≡ total_weight D.weight members.items },
+    pub ghost summed: { total ≡ sum_of_totals D.weight members.items },
     pub ghost priced: { AreTops D.ceiling (length (supply_of seller)) members.items tops.items },
 }
 
@@ -27,9 +27,11 @@ impl<D: Convex> Market<D> {
     ghost use Rattle.mix_num.specs.Vectors.{members, ray, with_null};
     ghost use Rattle.mix_num.specs.Ranges.{HaveRoom, Lies};
     ghost use Rattle.mix_num.specs.Moves.{IsSetOfGoods};
+    ghost use Rattle.mix_num.specs.Tables.{number_of};
     ghost use Rattle.mix_seller.specs.Sellers.{supply_of};
     ghost use Rattle.mix_market.specs.Steepest.{slope_of};
-    ghost use Rattle.mix_market.specs.Memberships.{total_weight};
+    ghost use Rattle.mix_market.specs.Extremes.{greatest_of, least_of};
+    ghost use Rattle.mix_market.specs.Memberships.{sum_of_totals};
     ghost use Rattle.mix_market.specs.Markets.{goods_of, lyapunov_of, members_of, seller_of};
 
     /// The market of these members and this seller.
@@ -68,14 +70,16 @@ impl<D: Convex> Market<D> {
 
     /// The sum of the members' totals.
     pub fn total(&self) -> i64
-        ensures { result ≡ total_weight D.weight (members_of self.now) }
+        ensures { result ≡ sum_of_totals D.weight (members_of self.now) }
     {
         self.total
     }
 
-    /// A price of the good from which on no member wants it, from -1,000,000 to 1,000,000: the greatest of the members' tops.
+    /// A price of the good from which on no member wants it, from -1,000,000 to 1,000,000: the greatest of the members' tops,
+    /// or -1,000,000 where there is no member.
     pub fn top(&self, good: usize) -> i64
         requires { (1 ≤ good) × (good ≤ goods_of self.now) }
+        ensures value { result ≡ greatest_of (λ member. D.ceiling member good) (members_of self.now) }
         ensures range { Lies 1000000 result }
         ensures above { All (λ member. D.ceiling member good ≤ℤ result) (members_of self.now) }
     {
@@ -99,12 +103,28 @@ impl<D: Convex> Market<D> {
         supplied(self.seller.supply(), set) - sums::fall(&self.members, prices, set)
     }
 
+    /// [`Market::slope`] of each set of goods; every other set gets 0.
+    pub fn slopes(&self, prices: &Prices, out: &mut SetTable)
+        requires { HaveRoom (goods_of self.now) prices.now.items }
+        ensures goods { (set : ℕ) → IsSetOfGoods (goods_of self.now) set → number_of out.new set ≡ slope_of (lyapunov_of self.now) (with_null prices.now.items) (members set) }
+        ensures others { (set : ℕ) → ¬ IsSetOfGoods (goods_of self.now) set → number_of out.new set ≡ pos 0 }
+    {
+        let falls = sums::falls(&self.members, prices);
+        *out = SetTable::new();
+        // The sets of goods are the even numbers.
+        for half in 0..Set::goods(prices.len()).bits() / 2 + 1 {
+            let set = Set::from_bits(2 * half);
+            out.add(set, supplied(self.seller.supply(), set) - falls.at(set));
+        }
+    }
+
     /// A number of steps, from 1 to 8,000,000, over which [`Market::lyapunov`] changes by the slope at each step along the
-    /// set: the least of the members' reaches.
+    /// set: the least of the members' reaches, or 8,000,000 where there is no member.
     pub fn reach(&self, prices: &Prices, set: Set) -> i64
         requires prices { HaveRoom (goods_of self.now) prices.now.items }
         requires goods { IsSetOfGoods (goods_of self.now) set }
         requires some { 0 < set }
+        ensures value { result ≡ least_of (λ member. D.span member (with_null prices.now.items) (members set)) (members_of self.now) }
         ensures range { (pos 1 ≤ℤ result) × (result ≤ℤ pos 8000000) }
         ensures linear { (m : ℕ) → pos m ≤ℤ result → lyapunov_of self.now (ray (with_null prices.now.items) m (members set)) ≡ lyapunov_of self.now (with_null prices.now.items) +ℤ (pos m *ℤ slope_of (lyapunov_of self.now) (with_null prices.now.items) (members set)) }
     {

@@ -1,13 +1,15 @@
 // Sums and bounds over the members of a market.
-ghost use Rattle.std.specs.Prelude.{◌≡◌, ◌≤◌, ◌<◌, ℕ, ℤ, false, pos, ◌+ℤ◌, ◌-ℤ◌, ◌*ℤ◌, ◌≤ℤ◌, length, map, All};
+ghost use Rattle.std.specs.Prelude.{◌≡◌, ◌≤◌, ◌<◌, ◌^◌, ℕ, ℤ, suc, false, pos, ◌+ℤ◌, ◌-ℤ◌, ◌*ℤ◌, ◌≤ℤ◌, length, map, All};
 ghost use Rattle.mix_num.specs.Vectors.{members, ray, with_null};
 ghost use Rattle.mix_num.specs.Ranges.{HaveRoom, Lies};
+ghost use Rattle.mix_num.specs.Tables.{number_of};
 ghost use Rattle.mix_law.specs.Members.{fall_of};
+ghost use Rattle.mix_market.specs.Extremes.{greatest_of, least_of};
 ghost use Rattle.mix_market.specs.Lyapunov.{sum_of};
-ghost use Rattle.mix_market.specs.Memberships.{AreMembers, total_weight};
+ghost use Rattle.mix_market.specs.Memberships.{AreMembers, sum_of_totals};
 
 use mix_law::Convex;
-use mix_num::{Prices, Set};
+use mix_num::{Prices, Set, SetTable};
 
 /// The sum of the members' values at the prices.
 pub fn value<D: Convex>(buyers: &[D], prices: &Prices) -> i64
@@ -37,10 +39,26 @@ pub fn fall<D: Convex>(buyers: &[D], prices: &Prices, set: Set) -> i64
     sum
 }
 
+/// The table of what [`fall`] tells of each set of the choices 0 to n; other sets have 0.
+pub fn falls<D: Convex>(buyers: &[D], prices: &Prices) -> SetTable
+    requires some { 1 ≤ length prices.now.items }
+    requires buyers { AreMembers D.size D.weight (length prices.now.items) buyers.now }
+    requires prices { HaveRoom (length prices.now.items) prices.now.items }
+    ensures value { (set : ℕ) → set < 2 ^ suc (length prices.now.items) → number_of result set ≡ fall_of (sum_of (map D.function buyers.now)) (with_null prices.now.items) (members set) }
+    ensures others { (set : ℕ) → 2 ^ suc (length prices.now.items) ≤ set → number_of result set ≡ pos 0 }
+    ensures range { (set : ℕ) → (pos 0 ≤ℤ number_of result set) × (number_of result set ≤ℤ pos 2048000000) }
+{
+    let mut falls = SetTable::new();
+    for buyer in buyers {
+        buyer.falls(prices, &mut falls);
+    }
+    falls
+}
+
 /// The sum of the members' totals.
 pub fn total<D: Convex>(buyers: &[D]) -> i64
     requires { length buyers.now ≤ 256 }
-    ensures value { result ≡ total_weight D.weight buyers.now }
+    ensures value { result ≡ sum_of_totals D.weight buyers.now }
     ensures range { (pos 0 ≤ℤ result) × (result ≤ℤ pos 2048000000) }
     ensures totals { All (λ buyer. (pos 0 ≤ℤ D.weight buyer) × (D.weight buyer ≤ℤ pos 8000000)) buyers.now }
 {
@@ -54,10 +72,10 @@ pub fn total<D: Convex>(buyers: &[D]) -> i64
 /// The greatest of the members' tops of a good, or -1,000,000 where there is no member.
 pub fn highest_top<D: Convex>(buyers: &[D], good: usize) -> i64
     requires { All (λ buyer. (1 ≤ good) × (good ≤ D.size buyer)) buyers.now }
+    ensures value { result ≡ greatest_of (λ buyer. D.ceiling buyer good) buyers.now }
     ensures range { Lies 1000000 result }
-    ensures above { All (λ buyer. D.ceiling buyer good ≤ℤ result) buyers.now }
 {
-    let mut highest = -1_000_000;
+    let mut highest: i64 = -1_000_000;
     for buyer in buyers {
         highest = highest.max(buyer.top(good));
     }
@@ -69,10 +87,11 @@ pub fn reach<D: Convex>(buyers: &[D], prices: &Prices, set: Set) -> i64
     requires buyers { AreMembers D.size D.weight (length prices.now.items) buyers.now }
     requires prices { HaveRoom (length prices.now.items) prices.now.items }
     requires goods { members set 0 ≡ false }
+    ensures value { result ≡ least_of (λ buyer. D.span buyer (with_null prices.now.items) (members set)) buyers.now }
     ensures range { (pos 1 ≤ℤ result) × (result ≤ℤ pos 8000000) }
     ensures linear { (m : ℕ) → pos m ≤ℤ result → sum_of (map D.function buyers.now) (ray (with_null prices.now.items) m (members set)) ≡ sum_of (map D.function buyers.now) (with_null prices.now.items) -ℤ (pos m *ℤ fall_of (sum_of (map D.function buyers.now)) (with_null prices.now.items) (members set)) }
 {
-    let mut least = 8_000_000;
+    let mut least: i64 = 8_000_000;
     for buyer in buyers {
         least = least.min(buyer.reach(prices, set));
     }

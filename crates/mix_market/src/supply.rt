@@ -16,13 +16,13 @@ pub fn cost(supply: &[i64], prices: &[i64]) -> i64
 {
     let mut sum = 0;
     for (place, amount) in supply.iter().enumerate() {
-        sum += price_of(*amount, prices[place]);
+        sum += worth_of(*amount, prices[place]);
     }
     sum
 }
 
 /// The price of an amount.
-fn price_of(amount: i64, price: i64) -> i64
+fn worth_of(amount: i64, price: i64) -> i64
     requires amount { IsAmount amount }
     requires price { Lies 3999999 price }
     ensures value { result ≡ amount *ℤ price }

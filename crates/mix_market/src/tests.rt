@@ -5,7 +5,7 @@ ghost use Rattle.mix_num.specs.Sellers.{AreAmounts, IsAmount};
 ghost use Rattle.mix_market.specs.Markets.{goods_of};
 
 use crate::Market;
-use mix_num::{Bundle, Prices, Set};
+use mix_num::{Bundle, Prices, Set, SetTable};
 use mix_seller::Seller;
 use std::alloc::{AllocError, Global};
 use std::test::Fail;
@@ -54,7 +54,29 @@ fn slopes_are_supply_less_fall(rt: HostRuntime) -> Result<(), Fail> {
     assert_eq!(rt; market.slope(&pair(0, 0), both), -2);
     assert_eq!(rt; market.slope(&pair(4, 3), both), 0);
     assert_eq!(rt; market.slope(&pair(5, 3), both), 2);
-    let reach = market.reach(&pair(0, 0), both);
-    assert!(rt; reach >= 1 && reach <= 3);
+    let mut slopes = SetTable::new();
+    market.slopes(&pair(0, 0), &mut slopes);
+    let rows = [
+        (0, 0),
+        (1, 0),
+        (2, -1),
+        (3, 0),
+        (4, -1),
+        (6, -2),
+        (7, 0),
+        (8, 0),
+    ];
+    for (bits, slope) in rows {
+        assert_eq!(rt; slopes.at(Set::from_bits(bits)), slope);
+    }
+    Ok(())
+}
+
+#[test]
+fn reaches_are_the_least_of_members(rt: HostRuntime) -> Result<(), Fail> {
+    let market = market(rt.alloc())?;
+    assert_eq!(rt; market.reach(&pair(0, 0), Set::from_bits(2)), 5);
+    assert_eq!(rt; market.reach(&pair(0, 0), Set::from_bits(6)), 3);
+    assert_eq!(rt; market.reach(&pair(5, 3), Set::from_bits(6)), 8_000_000);
     Ok(())
 }

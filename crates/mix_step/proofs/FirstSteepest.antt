@@ -5,16 +5,10 @@ use Rattle.mix_num.specs.Vectors.{Vector, Choices, bit, plus, members, both, eit
 use Rattle.mix_num.proofs.Masks.{mask_of, mask_below, mask_members, and_members, same_members}
 use Rattle.mix_law.specs.Members.{KeepsLocal}
 use Rattle.mix_law.proofs.Exchanges.{submodular_sets}
-use Rattle.mix_step.specs.declared.step.Step.{Step}
 use Rattle.mix_market.specs.Steepest.{IsMinimalSteepest, slope_of, IsGoods}
+use Rattle.mix_market.proofs.GoodsSets.{even_null, even_of}
+use Rattle.mix_step.specs.declared.step.Step.{Step}
 use Rattle.std.proofs.lemmas.Nat.{and_le_l}
-use Rattle.std.proofs.lemmas.Nat.Bits.{bit_at_lowest}
-use Rattle.std.proofs.lemmas.Bool.{eqb-false, ne_eqb}
-use Rattle.std.specs.Int.{bit_at}
-
--- the number of a set without the null choice is even
-pub even_of : (k : ℕ) → members k 0 ≡ false → k ≡ 2 * (k / 2)
-even_of k h = let e = bit_at_lowest k in let other = eqb-false (bit_at k 0) 1 h in omega arith
 
 both_true : (a b : Bool) → a ≡ true → cond a b false ≡ true → b ≡ true
 both_true true b e f = f
@@ -39,9 +33,6 @@ first_none n slope_at set none e =
       least = λ k h. let same : 2 * k ≡ 0 = omega arith in let u = ap slope_at same in omega (arith, ints);
       first = λ k h. absurd (omega arith);
     }
-
-even_null : (i : ℕ) → members (2 * i) 0 ≡ false
-even_null i = let e = bit_at_lowest (2 * i) in ne_eqb (bit_at (2 * i) 0) 1 (λ q. omega arith)
 
 -- one set more
 pub first_next : (n : ℕ) (slope_at : ℕ → ℤ) (i : ℕ) (best next result : Step) → result ≡ cond (int_lt next.slope best.slope) next best → i < 2 ^ n → next.set ≡ 2 * i → next.slope ≡ slope_at next.set → IsFirst n slope_at i best.set best.slope → IsFirst n slope_at (i + 1) result.set result.slope

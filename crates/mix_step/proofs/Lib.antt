@@ -1,1 +1,1 @@
-mod FirstSteepest
+pub mod FirstSteepest

@@ -1,5 +1,5 @@
 // The search for the least step.
-ghost use Rattle.std.specs.Prelude.{◌≡◌, ℕ, ◌≤◌, ◌<◌, ◌+◌, ◌^◌, ◌≤ℤ◌, cond, int_lt};
+ghost use Rattle.std.specs.Prelude.{◌≡◌, ℕ, ◌+◌, cond, int_lt};
 ghost use Rattle.mix_num.specs.Vectors.{members, with_null};
 ghost use Rattle.mix_num.specs.Ranges.{HaveRoom};
 ghost use Rattle.mix_num.specs.Moves.{IsSetOfGoods};
@@ -9,7 +9,7 @@ ghost use Rattle.mix_market.specs.Steepest.{IsMinimalSteepest, slope_of};
 use crate::{Step, Steps};
 use mix_law::Convex;
 use mix_market::Market;
-use mix_num::{Prices, Set};
+use mix_num::{Prices, Set, SetTable};
 use std::sync::ledger::Ledger;
 
 /// The least step at the prices: of all sets of goods, the empty one among them, the one with the least slope that lies
@@ -27,14 +27,17 @@ pub fn least_step<D: Convex, L: Ledger>(
     ensures cost { steps.new ≡ steps.old + 1 }
 {
     steps.tick();
+    let mut slopes = SetTable::new();
+    market.slopes(prices, &mut slopes);
     let mut best = Step {
         set: Set::from_bits(0),
         slope: 0,
     };
-    // A set comes after those within it, so the first of the steepest sets lies within the others.
-    for goods in 1..sets_of(prices.len()) {
-        let set = Set::from_bits(2 * goods);
-        let slope = market.slope(prices, set);
+    // The sets of goods are the even numbers. A set comes after those within it, so the first of the steepest sets lies within
+    // the others.
+    for half in 1..Set::goods(prices.len()).bits() / 2 + 1 {
+        let set = Set::from_bits(2 * half);
+        let slope = slopes.at(set);
         best = steeper(best, Step { set, slope });
     }
     best
@@ -45,13 +48,4 @@ fn steeper(best: Step, next: Step) -> Step
     ensures { result ≡ cond (int_lt next.slope best.slope) next best }
 {
     if next.slope < best.slope { next } else { best }
-}
-
-/// How many sets `n` goods have.
-fn sets_of(n: usize) -> u16
-    requires { n ≤ 8 }
-    ensures value { result ≡ 2 ^ n }
-    ensures range { result ≤ 256 }
-{
-    1 << n
 }

@@ -1,14 +1,15 @@
 use Rattle.std.proofs.Common.{◌≡◌, ◌∙◌, ℕ, List, ℤ, arith, ap, subst, sym, refl}
 use Rattle.std.proofs.lemmas.Int.{ints}
-use Rattle.mix_num.specs.Vectors.{members, with_null, plus, Agree}
+use Rattle.mix_num.specs.Vectors.{members, with_null}
 use Rattle.mix_num.specs.Ranges.{AreWithin}
 use Rattle.mix_market.specs.Markets.{lyapunov_of, goods_of}
-use Rattle.mix_market.specs.Steepest.{slope_of}
+use Rattle.mix_market.specs.Steepest.{slope_of, IsMinimalSteepest}
 use Rattle.mix_market.proofs.MarketLaws.{slope-none}
 use Rattle.mix_market.proofs.MarketFacts.{market_keeps}
-use Rattle.mix_descent.proofs.Climbs.{start_best, step_best, best_same, end_least}
-use Rattle.mix_descent.proofs.Rooms.{room-raised, room-same, some_good}
-use Rattle.mix_descent.proofs.Bounds.{rises_low, raised_within}
+use Rattle.mix_descent.proofs.Bounds.{least_below_tops}
+use Rattle.mix_descent.proofs.Climbs.{start_best, end_least}
+use Rattle.mix_descent.proofs.Landings.{long_smaller}
+use Rattle.mix_descent.proofs.TrailFacts.{climbed_none, climbed_more, long_best}
 use Rattle.mix_descent.proofs.descent.descend.Goals as goal
 
 pub loop-step-init : goal.loop-step-init
@@ -18,6 +19,7 @@ loop-step-init g c =
     record {
       range = subst (AreWithin 1000000 (goods_of market)) same c.requires;
       best = start_best (market_keeps market) _ _ (λ k h. ap (λ (z : List ℤ). with_null z k) same);
+      climbed = climbed_none (goods_of market) _ _ _ _ (λ k h. ap (λ (z : List ℤ). with_null z k) (sym same));
     }
 
 pub returns-then-bits-eq0-clause-least : goal.returns-then-bits-eq0-clause-least
@@ -28,28 +30,34 @@ returns-then-bits-eq0-clause-least g c =
     let none = ap (λ (set : ℕ). slope_of (lyapunov_of market) x (members set)) empty ∙ slope-none (market_keeps market) x in
     end_least (market_keeps market) _ x c.loop-step.invariant.best refl (λ t h. let up = c.least_step-step.ensures.minimal.steepest t h in omega (arith, ints))
 
-pub loop-step-smaller : goal.loop-step-smaller
-loop-step-smaller g c =
+pub returns-then-bits-eq0-clause-tops : goal.returns-then-bits-eq0-clause-tops
+returns-then-bits-eq0-clause-tops g c = least_below_tops c.args.market.now _ (with_null c.loop-step.prices.items) refl (returns-then-bits-eq0-clause-least g c)
+
+pub returns-then-bits-eq0-clause-cost : goal.returns-then-bits-eq0-clause-cost
+returns-then-bits-eq0-clause-cost g c =
     let market = c.args.market.now in
-    let n = goods_of market in
     let x = with_null c.loop-step.prices.items in
-    let s = members c.least_step-step.result.set in
-    let low = rises_low market x s refl c.least_step-step.ensures.minimal in
-    let raised = subst (λ (m : ℕ). Agree m (with_null c.raise-prices.result.items) (plus x s)) c.loop-step.invariant.range.0 c.raise-prices.ensures.prices in
-    let same = room-same n (with_null c.raise-prices.result.items) (plus x s) raised in
-    let less = room-raised n x s low in
-    let some = some_good n c.least_step-step.result.set c.least_step-step.ensures.goods (λ e. c.if-bits-eq0.false (c.bits.ensures.value ∙ e)) in
-    omega arith
+    let empty : c.least_step-step.result.set ≡ 0 = sym c.bits.ensures.value ∙ c.if-bits-eq0.true in
+    let climbed = c.loop-step.invariant.climbed in
+    let counted = climbed.counted in (
+      climbed.steps,
+      record { chained = climbed.way; ends = subst (λ (set : ℕ). IsMinimalSteepest (goods_of market) (lyapunov_of market) x (members set)) empty c.least_step-step.ensures.minimal },
+      omega (arith, c.least_step-step.ensures.cost),
+    )
+
+pub long_step-requires-clause-some : goal.long_step-requires-clause-some
+long_step-requires-clause-some g c = λ e. c.if-bits-eq0.false (c.bits.ensures.value ∙ e)
+
+pub loop-step-smaller : goal.loop-step-smaller
+loop-step-smaller g c = long_smaller c.args.market.now (with_null c.loop-step.prices.items) _ _ refl c.long_step.ensures.long c.long_step.ensures.prices
 
 pub loop-step-preserved : goal.loop-step-preserved
 loop-step-preserved g c =
     let market = c.args.market.now in
-    let x = with_null c.loop-step.prices.items in
-    let s = members c.least_step-step.result.set in
-    let step = c.least_step-step.ensures.minimal in
-    let low = rises_low market x s refl step in
-    let raised = subst (λ (m : ℕ). Agree m (with_null c.raise-prices.result.items) (plus x s)) c.loop-step.invariant.range.0 c.raise-prices.ensures.prices in
+    let long = c.long_step.ensures.long in
+    let there = c.long_step.ensures.prices in
     record {
-      range = raised_within _ c.loop-step.prices.items _ s c.loop-step.invariant.range c.raise-prices.ensures.goods c.raise-prices.ensures.prices low;
-      best = best_same (market_keeps market) _ _ _ raised (step_best (market_keeps market) _ x c.loop-step.invariant.best s step);
+      range = c.long_step.ensures.range;
+      best = long_best (market_keeps market) _ (with_null c.loop-step.prices.items) _ _ c.loop-step.invariant.best long there;
+      climbed = climbed_more (market_keeps market) _ _ _ _ _ _ _ c.loop-step.invariant.climbed long there c.least_step-step.ensures.cost;
     }

@@ -15,7 +15,7 @@ loop-place-preserved c =
     let price = c.requires.prices.1 place (pos 0) inside in
     let a : to_z w64 (of_z w64 (get_or c.args.supply.now place (pos 0))) ≡ get_or c.args.supply.now place (pos 0) = omega (arith, ints) in
     let b : to_z w64 (of_z w64 (get_or c.args.prices.now place (pos 0))) ≡ get_or c.args.prices.now place (pos 0) = omega (arith, ints) in
-    let v = c.price_of-sum.ensures.value ∙ ap₂ (λ (u w : ℤ). u *ℤ w) a b in
+    let v = c.worth_of-sum.ensures.value ∙ ap₂ (λ (u w : ℤ). u *ℤ w) a b in
     record {
       value = dot_next (with_null c.args.supply.now) (with_null c.args.prices.now) place _ _ _ c.loop-place.invariant.value v (omega (arith, ints));
       range = (omega (arith, ints), omega (arith, ints));

@@ -1,0 +1,37 @@
+-- Tables of falls and of slopes: one member more, and one set of goods more.
+use Rattle.std.proofs.Common.{◌≡◌, ◌≢◌, ◌∙◌, ℕ, ◌+◌, ◌*◌, ◌<◌, ◌≤◌, Bool, true, false, ltb, List, ℤ, pos, ◌+ℤ◌, ◌≤ℤ◌, refl, arith, ap, below_more}
+use Rattle.std.proofs.lemmas.Int.{ints}
+use Rattle.std.proofs.lemmas.Bool.{ltb-true, ltb-false}
+use Rattle.mix_num.specs.Ranges.{Lies}
+use Rattle.mix_num.specs.Tables.{number_of}
+
+pub sum_lies : (sum fall weight : ℤ) (k : ℕ) → k < 256 → pos 0 ≤ℤ sum → sum ≤ℤ pos (8000000 * k) → (pos 0 ≤ℤ fall) × (fall ≤ℤ weight) → weight ≤ℤ pos 8000000 → Lies 4000000000 (sum +ℤ fall)
+sum_lies sum fall weight k l low high range most = (omega (arith, ints, range.0, range.1), omega (arith, ints, range.0, range.1))
+
+pub sum_next : (old new own rest all total : ℤ) → new ≡ old +ℤ own → all ≡ own +ℤ rest → old +ℤ all ≡ total → new +ℤ rest ≡ total
+sum_next old new own rest all total a b c = omega (arith, ints)
+
+pub sum_range : (old new fall weight : ℤ) (k set sets : ℕ) → (set < sets → new ≡ old +ℤ fall) → (sets ≤ set → new ≡ old) → pos 0 ≤ℤ old → old ≤ℤ pos (8000000 * k) → (pos 0 ≤ℤ fall) × (fall ≤ℤ weight) → weight ≤ℤ pos 8000000
+    → (pos 0 ≤ℤ new) × (new ≤ℤ pos (8000000 * (k + 1)))
+sum_range old new fall weight k set sets inside outside low high range most = at (ltb set sets) refl
+  where
+    at : (b : Bool) → ltb set sets ≡ b → (pos 0 ≤ℤ new) × (new ≤ℤ pos (8000000 * (k + 1)))
+    at true e = let s = inside (ltb-true set sets e) in (omega (arith, ints, range.0, range.1), omega (arith, ints, range.0, range.1))
+    at false e = let s = outside (ltb-false set sets e) in (omega (arith, ints), omega (arith, ints))
+
+-- the sets 0, 2, .. below 2 * i have their numbers, and the others have 0
+pub record AreDone (table : List ℤ) (f : ℕ → ℤ) (i : ℕ) : Type 0 where
+  pub done : (k : ℕ) → k < i → number_of table (2 * k) ≡ f (2 * k)
+  pub others : (set : ℕ) → ((k : ℕ) → k < i → set ≢ 2 * k) → number_of table set ≡ pos 0
+
+pub next_zero : (table : List ℤ) (f : ℕ → ℤ) (i : ℕ) → AreDone table f i → number_of table (2 * i) ≡ pos 0
+next_zero table f i d = d.others (2 * i) (λ k l e. omega arith)
+
+pub one_done : (old new : List ℤ) (f : ℕ → ℤ) (i set : ℕ) (by : ℤ) → set ≡ 2 * i → by ≡ f set → number_of new set ≡ number_of old set +ℤ by → ((other : ℕ) → other ≢ set → number_of new other ≡ number_of old other)
+    → AreDone old f i → AreDone new f (i + 1)
+one_done old new f i set by e is sum rest d = record {
+  done = below_more (λ k. number_of new (2 * k) ≡ f (2 * k)) i
+      (λ k l. rest (2 * k) (λ q. omega arith) ∙ d.done k l)
+      (let here = ap (number_of new) e in let own = ap f e in let zero = ap (number_of old) e ∙ next_zero old f i d in omega (arith, ints));
+  others = λ other h. rest other (λ q. h i (omega arith) (q ∙ e)) ∙ d.others other (λ k l. h k (omega arith));
+}
