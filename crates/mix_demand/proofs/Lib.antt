@@ -1,2 +1,0 @@
-pub mod MemberTables
-pub mod Demanded

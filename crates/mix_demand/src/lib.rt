@@ -5,4 +5,4 @@ mod demand;
 mod rho;
 
 pub use demand::{demanded_where_fits, is_demanded};
-pub use rho::{Rho, add_numbers, rho_of, sum_into};
+pub use rho::{Rho, rho_of, sum_into};

@@ -5,7 +5,7 @@ ghost use Rattle.mix_num.specs.Tables.{IsProper, number_of};
 ghost use Rattle.mix_law.specs.Demands.{IsTableOf};
 
 use mix_law::Convex;
-use mix_num::{Memory, Prices, Set};
+use mix_num::{Memory, Prices, Set, SetTable};
 use std::alloc::Global;
 use std::marker::Model;
 
@@ -67,6 +67,15 @@ impl Rho {
     {
         write_numbers(&mut self.numbers, member, prices);
     }
+
+    /// Adds the numbers to others, set by set. No sum passes 4,000,000,000, up or down.
+    pub fn add_to(&self, sum: &mut [i64])
+        requires size { length sum.old ≡ length self.now }
+        requires range { (set : ℕ) → set < length sum.old → Lies 4000000000 (number_of sum.old set +ℤ number_of self.now set) }
+        ensures sums { (set : ℕ) → set < length sum.old → number_of sum.new set ≡ number_of sum.old set +ℤ number_of self.now set }
+    {
+        add_numbers(sum, &self.numbers);
+    }
 }
 
 /// The table of a member at prices; it is proper.
@@ -87,11 +96,11 @@ pub fn sum_into(sum: &mut Rho, other: &Rho)
     ensures goods { length sum.new ≡ length sum.old }
     ensures sums { (set : ℕ) → set < length sum.old → number_of sum.new set ≡ number_of sum.old set +ℤ number_of other.now set }
 {
-    add_numbers(&mut sum.numbers, &other.numbers);
+    other.add_to(&mut sum.numbers);
 }
 
 /// Adds numbers to others, place by place.
-pub fn add_numbers(sum: &mut [i64], other: &[i64])
+fn add_numbers(sum: &mut [i64], other: &[i64])
     requires size { length sum.old ≡ length other.now }
     requires range { (set : ℕ) → set < length sum.old → Lies 4000000000 (number_of sum.old set +ℤ number_of other.now set) }
     ensures sums { (set : ℕ) → set < length sum.old → number_of sum.new set ≡ number_of sum.old set +ℤ number_of other.now set }
@@ -101,7 +110,8 @@ pub fn add_numbers(sum: &mut [i64], other: &[i64])
     }
 }
 
-/// Writes the member's number of each set. That of the whole set, the last, is the member's total.
+/// Writes the member's number of each set, told all at once. That of the whole set, the last, is the member's total, which
+/// none passes.
 fn write_numbers<D: Convex>(numbers: &mut [i64], member: &D, prices: &Prices)
     requires goods { length numbers.old ≡ 2 ^ suc (D.size member.now) }
     requires prices { HaveRoom (D.size member.now) prices.now.items }
@@ -110,10 +120,13 @@ fn write_numbers<D: Convex>(numbers: &mut [i64], member: &D, prices: &Prices)
     ensures range { All (Lies 8000000) numbers.new }
 {
     let whole = Set::whole(member.goods()).bits();
+    let total = member.total();
+    let mut gains = SetTable::new();
+    member.gains(prices, &mut gains);
     for bits in 0..whole {
-        numbers[bits as usize] = member.gain_down(prices, Set::from_bits(bits));
+        numbers[bits as usize] = gains.at(Set::from_bits(bits));
     }
-    numbers[whole as usize] = member.total();
+    numbers[whole as usize] = total;
 }
 
 #[cfg(test)]

@@ -6,7 +6,7 @@ use Rattle.std.proofs.Math.Nat.{pow-le-pow_right}
 use Rattle.mix_num.specs.Ranges.{Lies}
 use Rattle.mix_ties.proofs.Sandwiches.{least-at, least-below}
 use Rattle.mix_ties.proofs.SetNumbers.{number-lt, number-subset}
-use Rattle.mix_ties.specs.Numbered.{IsCut, IsGiven, IsLift, LieWithin, first_gap, goods_of, number, room, subset, table_over, with_first}
+use Rattle.mix_ties.specs.Numbered.{IsCut, IsGiven, IsLift, LieWithin, first_gap, goods_part, number, room, subset, table_over, with_first}
 use Rattle.mix_ties.specs.Peeled.{Subset, cut, greedy, least, lift, most}
 
 pub cut-is : (k : ℕ) (old new : List ℤ) (v : ℤ) → IsCut (2 ^ (suc k)) old new v → table_over k new ≡ cut (suc k) (table_over (suc k) old) v
@@ -27,7 +27,7 @@ most-is k upper lower v m below h e =
     least-is (suc k) (λ s. table_over (suc k) upper (true, s) -ℤ table_over (suc k) lower (false, s)) v (subset k m) (λ s. below (number k s) (number-lt k s)) (e ∙ ap (first_gap upper lower) (sym (number-subset k m h)))
 
 pub greedy-list : (k : ℕ) (r g : Subset (suc (suc k)) → ℤ)
-    → goods_of (suc k) (greedy (suc (suc k)) r g) ≡ most (suc k) r g ∷ goods_of k (greedy (suc k) (cut (suc k) r (most (suc k) r g)) (lift (suc k) g (most (suc k) r g)))
+    → goods_part (suc k) (greedy (suc (suc k)) r g) ≡ most (suc k) r g ∷ goods_part k (greedy (suc k) (cut (suc k) r (most (suc k) r g)) (lift (suc k) g (most (suc k) r g)))
 unfolding greedy
 greedy-list k r g = refl
 
@@ -37,8 +37,8 @@ pub greedy-step : (k : ℕ) (upper lower upper' lower' : List ℤ) (v : ℤ) →
 unfolding IsGiven
 greedy-step k upper lower upper' lower' v e p q =
     greedy-list k (table_over (suc k) upper) (table_over (suc k) lower)
-    ∙ ap (λ (w : ℤ). w ∷ goods_of k (greedy (suc k) (cut (suc k) (table_over (suc k) upper) w) (lift (suc k) (table_over (suc k) lower) w))) (sym e)
-    ∙ ap₂ (λ (r g : Subset (suc k) → ℤ). v ∷ goods_of k (greedy (suc k) r g)) (sym (cut-is k upper upper' v p)) (sym (lift-is k lower lower' v q))
+    ∙ ap (λ (w : ℤ). w ∷ goods_part k (greedy (suc k) (cut (suc k) (table_over (suc k) upper) w) (lift (suc k) (table_over (suc k) lower) w))) (sym e)
+    ∙ ap₂ (λ (r g : Subset (suc k) → ℤ). v ∷ goods_part k (greedy (suc k) r g)) (sym (cut-is k upper upper' v p)) (sym (lift-is k lower lower' v q))
 
 pub room-step : (k : ℕ) → k < 8 → room k ≡ 4 * room (suc k)
 unfolding room
@@ -73,12 +73,12 @@ gap-room k size upper lower v m b p q lt e =
 
 -- one good more has its amount
 pub loop-step : (n k left : ℕ) (upper0 lower0 upper lower upper' lower' : List ℤ) (v : ℤ) (done : List ℤ) → left ≡ suc k
-    → goods_of n (greedy (suc n) (table_over n upper0) (table_over n lower0)) ≡ done ++ goods_of left (greedy (suc left) (table_over left upper) (table_over left lower))
+    → goods_part n (greedy (suc n) (table_over n upper0) (table_over n lower0)) ≡ done ++ goods_part left (greedy (suc left) (table_over left upper) (table_over left lower))
     → IsGiven k upper lower v upper' lower'
-    → goods_of n (greedy (suc n) (table_over n upper0) (table_over n lower0)) ≡ (done ++ v ∷ []) ++ goods_of k (greedy (suc k) (table_over k upper') (table_over k lower'))
+    → goods_part n (greedy (suc n) (table_over n upper0) (table_over n lower0)) ≡ (done ++ v ∷ []) ++ goods_part k (greedy (suc k) (table_over k upper') (table_over k lower'))
 unfolding IsGiven
 loop-step n k left upper0 lower0 upper lower upper' lower' v done e p q =
-    p ∙ ap (λ (j : ℕ). done ++ goods_of j (greedy (suc j) (table_over j upper) (table_over j lower))) e ∙ ap (λ (y : List ℤ). done ++ y) q ∙ sym (append_assoc done (v ∷ []) _)
+    p ∙ ap (λ (j : ℕ). done ++ goods_part j (greedy (suc j) (table_over j upper) (table_over j lower))) e ∙ ap (λ (y : List ℤ). done ++ y) q ∙ sym (append_assoc done (v ∷ []) _)
 
 pub room-large : (k : ℕ) → 2 ^ 44 ≤ room k
 unfolding room

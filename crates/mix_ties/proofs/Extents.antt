@@ -6,7 +6,7 @@ use Rattle.mix_ties.proofs.SetNumbers.{number-subset}
 use Rattle.mix_ties.proofs.TieRules.{proper-peeled}
 use Rattle.mix_ties.specs.Numbered.{amounts_of, subset, table_over}
 use Rattle.mix_ties.specs.Peeled.{Amounts, Subset, amount_in, entry, every, none, union}
-use Rattle.mix_ties.specs.Shares.{sum_at}
+use Rattle.mix_num.specs.Shares.{sum_at}
 use Rattle.mix_ties.specs.Turns.{ProperInTurn}
 
 -- every choice but the one at j

@@ -8,5 +8,11 @@ pub mod Subtractions
 pub mod Gifts
 pub mod Extents
 pub mod RowTurns
-pub mod SellerRows
 pub mod ZeroRows
+pub mod PeeledPairs
+pub mod PairNumbers
+pub mod FirstLevels
+pub mod TightLevels
+pub mod NumberedPairs
+pub mod TightPairs
+pub mod TightTurns

@@ -11,9 +11,10 @@ use Rattle.mix_ties.proofs.PeeledRows.{FitsPeeled, exact_of, floor_of, left-fits
 use Rattle.mix_ties.proofs.Sandwiches.{between_greedy}
 use Rattle.mix_ties.proofs.SetNumbers.{number-every, number-lt, number-subset, sum_in-number}
 use Rattle.mix_ties.proofs.TieRules.{amounts-of, bundles_of, exact-in, get-subtracted, left-of, length-goods, length-less, lies-in, proper-peeled, rows_at-is, tables}
-use Rattle.mix_ties.specs.Numbered.{IsDifference, LieWithin, amounts_of, floor_over, goods_of, null_left, null_of, number, subset, table_over}
+use Rattle.mix_ties.specs.Numbered.{IsDifference, LieWithin, amounts_of, floor_over, goods_part, null_left, null_part, number, subset, table_over}
 use Rattle.mix_ties.specs.Peeled.{Amounts, LiesBetween, Subset, amount_in, entry, greedy, without}
-use Rattle.mix_ties.specs.Shares.{AreProper, LiesInSum, sum_at, supply_null}
+use Rattle.mix_num.specs.Shares.{sum_at, supply_null}
+use Rattle.mix_ties.specs.Shares.{AreProper, LiesInSum}
 use Rattle.mix_ties.specs.Turns.{IsTurn, ProperInTurn, subtracted}
 
 module _ (n : ℕ) (r : List ℤ) (rs : List (List ℤ)) (later rest later' : List ℤ) (turn : IsTurn n (r ∷ rs) later rest) (gone : IsDifference (2 ^ suc n) later r later') where
@@ -45,36 +46,36 @@ module _ (n : ℕ) (r : List ℤ) (rs : List (List ℤ)) (later rest later' : Li
   fits : FitsPeeled (suc n) (table_over n r) given
   fits = record { within = between.under; exact = exact_of (suc n) (table_over n r) (tables n rs) vector given between (exact-in n (r ∷ rs) rest turn.size) }
 
-  pub minus-is : without (suc n) vector given ≡ amounts_of n (supply_null n rs (subtracted rest (goods_of n given))) (subtracted rest (goods_of n given))
+  pub minus-is : without (suc n) vector given ≡ amounts_of n (supply_null n rs (subtracted rest (goods_part n given))) (subtracted rest (goods_part n given))
   minus-is = left-of n r rs rest given turn.size fits
 
-  size' : length (subtracted rest (goods_of n given)) ≡ n
-  size' = length-less rest (goods_of n given) (turn.size ∙ sym (length-goods n given)) ∙ turn.size
+  size' : length (subtracted rest (goods_part n given)) ≡ n
+  size' = length-less rest (goods_part n given) (turn.size ∙ sym (length-goods n given)) ∙ turn.size
 
-  lies' : (s : Subset (suc n)) → amount_in (suc n) (amounts_of n (supply_null n rs (subtracted rest (goods_of n given))) (subtracted rest (goods_of n given))) s ≤ℤ rows_at (suc n) (tables n rs) s
+  lies' : (s : Subset (suc n)) → amount_in (suc n) (amounts_of n (supply_null n rs (subtracted rest (goods_part n given))) (subtracted rest (goods_part n given))) s ≤ℤ rows_at (suc n) (tables n rs) s
   lies' s = subst (λ (w : Amounts (suc n)). amount_in (suc n) w s ≤ℤ rows_at (suc n) (tables n rs) s) minus-is (left-fits (suc n) (table_over n r) (tables n rs) vector given between s)
 
-  lies-out : (m : ℕ) → m < 2 ^ suc n → sum_in (supply_null n rs (subtracted rest (goods_of n given)) ∷ subtracted rest (goods_of n given)) m ≤ℤ sum_at rs m
-  lies-out m h = subst (λ (i : ℕ). sum_in (supply_null n rs (subtracted rest (goods_of n given)) ∷ subtracted rest (goods_of n given)) i ≤ℤ sum_at rs i) (number-subset n m h)
-      (rw (sum_in-number n (supply_null n rs (subtracted rest (goods_of n given))) (subtracted rest (goods_of n given)) (subset n m) size', ← (rows_at-is n rs (subset n m))) (lies' (subset n m)))
+  lies-out : (m : ℕ) → m < 2 ^ suc n → sum_in (supply_null n rs (subtracted rest (goods_part n given)) ∷ subtracted rest (goods_part n given)) m ≤ℤ sum_at rs m
+  lies-out m h = subst (λ (i : ℕ). sum_in (supply_null n rs (subtracted rest (goods_part n given)) ∷ subtracted rest (goods_part n given)) i ≤ℤ sum_at rs i) (number-subset n m h)
+      (rw (sum_in-number n (supply_null n rs (subtracted rest (goods_part n given))) (subtracted rest (goods_part n given)) (subset n m) size', ← (rows_at-is n rs (subset n m))) (lies' (subset n m)))
 
-  entry-given : (i : ℕ) → i < n → get_or (goods_of n given) i (pos 0) ≡ entry (suc n) i given
-  entry-given i h = sym (entry-is n i (null_of n given) (goods_of n given) (length-goods n given) h) ∙ ap (λ (w : Amounts (suc n)). entry (suc n) i w) (amounts-of n given)
+  entry-given : (i : ℕ) → i < n → get_or (goods_part n given) i (pos 0) ≡ entry (suc n) i given
+  entry-given i h = sym (entry-is n i (null_part n given) (goods_part n given) (length-goods n given) h) ∙ ap (λ (w : Amounts (suc n)). entry (suc n) i w) (amounts-of n given)
 
-  left-least : (i : ℕ) → i < n → pos 0 ≤ℤ get_or (subtracted rest (goods_of n given)) i (pos 0)
-  left-least i h = subst (λ (a : ℤ). pos 0 ≤ℤ a) (entry-is n i _ (subtracted rest (goods_of n given)) size' h)
-      (entry-least (suc n) i (rows_at (suc n) (tables n rs)) (amounts_of n (supply_null n rs (subtracted rest (goods_of n given))) (subtracted rest (goods_of n given)))
+  left-least : (i : ℕ) → i < n → pos 0 ≤ℤ get_or (subtracted rest (goods_part n given)) i (pos 0)
+  left-least i h = subst (λ (a : ℤ). pos 0 ≤ℤ a) (entry-is n i _ (subtracted rest (goods_part n given)) size' h)
+      (entry-least (suc n) i (rows_at (suc n) (tables n rs)) (amounts_of n (supply_null n rs (subtracted rest (goods_part n given))) (subtracted rest (goods_part n given)))
       (sum-below (suc n) (tables n rs) (proper-peeled n (r ∷ rs) turn.proper).1)
-      (record { within = lies'; exact = exact-in n rs (subtracted rest (goods_of n given)) size' }))
+      (record { within = lies'; exact = exact-in n rs (subtracted rest (goods_part n given)) size' }))
 
-  pub given-range : (i : ℕ) → i < n → IsAmount (get_or (goods_of n given) i (pos 0))
+  pub given-range : (i : ℕ) → i < n → IsAmount (get_or (goods_part n given) i (pos 0))
   given-range i h =
       let low = entry-least (suc n) i (table_over n r) given (below-whole (suc n) (table_over n r) (proper-peeled n (r ∷ rs) turn.proper).0) fits in
       let e = entry-given i h in
-      let d = get-subtracted rest (goods_of n given) i (turn.size ∙ sym (length-goods n given)) in
+      let d = get-subtracted rest (goods_part n given) i (turn.size ∙ sym (length-goods n given)) in
       (omega (arith, ints, low, e), omega (arith, ints, d, left-least i h, turn.range i h))
 
-  pub next : IsTurn n rs later' (subtracted rest (goods_of n given))
+  pub next : IsTurn n rs later' (subtracted rest (goods_part n given))
   next = record {
     size = size';
     few = let f = turn.few in omega arith;
@@ -82,37 +83,37 @@ module _ (n : ℕ) (r : List ℤ) (rs : List (List ℤ)) (later rest later' : Li
     lies = lies-out;
     later_is = later-is;
     range = λ i h.
-        let d = get-subtracted rest (goods_of n given) i (turn.size ∙ sym (length-goods n given)) in
+        let d = get-subtracted rest (goods_part n given) i (turn.size ∙ sym (length-goods n given)) in
         let g = given-range i h in
         (left-least i h, omega (arith, ints, d, g, turn.range i h));
   }
 
 pub share-cons : (n : ℕ) (r : List ℤ) (rs : List (List ℤ)) (v : Amounts (suc n))
     → bundles_of n (shares (suc n) (tables n (r ∷ rs)) v)
-    ≡ goods_of n (greedy (suc n) (table_over n r) (floor_of (suc n) v (tables n rs))) ∷ bundles_of n (shares (suc n) (tables n rs) (without (suc n) v (greedy (suc n) (table_over n r) (floor_of (suc n) v (tables n rs)))))
+    ≡ goods_part n (greedy (suc n) (table_over n r) (floor_of (suc n) v (tables n rs))) ∷ bundles_of n (shares (suc n) (tables n rs) (without (suc n) v (greedy (suc n) (table_over n r) (floor_of (suc n) v (tables n rs)))))
 unfolding shares
 share-cons n r rs v = refl
 
 pub turn-bundle : (n : ℕ) (r : List ℤ) (rs : List (List ℤ)) (later rest later' xs : List ℤ) (turn : IsTurn n (r ∷ rs) later rest) (gone : IsDifference (2 ^ suc n) later r later')
-    → xs ≡ goods_of (length rest) (greedy (suc (length rest)) (table_over (length rest) r) (floor_over (length rest) (null_left (length rest) later rest) rest later'))
-    → xs ≡ goods_of n (given n r rs later rest later' turn gone)
+    → xs ≡ goods_part (length rest) (greedy (suc (length rest)) (table_over (length rest) r) (floor_over (length rest) (null_left (length rest) later rest) rest later'))
+    → xs ≡ goods_part n (given n r rs later rest later' turn gone)
 turn-bundle n r rs later rest later' xs turn gone h =
-    subst (λ (k : ℕ). xs ≡ goods_of k (greedy (suc k) (table_over k r) (floor_over k (null_left k later rest) rest later'))) turn.size h
-    ∙ ap (λ (g : Subset (suc n) → ℤ). goods_of n (greedy (suc n) (table_over n r) g)) (gap-is n r rs later rest later' turn gone)
+    subst (λ (k : ℕ). xs ≡ goods_part k (greedy (suc k) (table_over k r) (floor_over k (null_left k later rest) rest later'))) turn.size h
+    ∙ ap (λ (g : Subset (suc n) → ℤ). goods_part n (greedy (suc n) (table_over n r) g)) (gap-is n r rs later rest later' turn gone)
 
 pub turn-value : (n : ℕ) (r : List ℤ) (rs : List (List ℤ)) (later rest later' xs : List ℤ) (turn : IsTurn n (r ∷ rs) later rest) (gone : IsDifference (2 ^ suc n) later r later') (full done : List (List ℤ))
     → full ≡ done ++ bundles_of n (shares (suc n) (tables n (r ∷ rs)) (amounts_of n (supply_null n (r ∷ rs) rest) rest))
-    → xs ≡ goods_of n (given n r rs later rest later' turn gone)
+    → xs ≡ goods_part n (given n r rs later rest later' turn gone)
     → full ≡ (done ++ xs ∷ []) ++ bundles_of n (shares (suc n) (tables n rs) (amounts_of n (supply_null n rs (subtracted rest xs)) (subtracted rest xs)))
 turn-value n r rs later rest later' xs turn gone full done h e =
     h
     ∙ ap (λ (w : List (List ℤ)). done ++ w) (share-cons n r rs (amounts_of n (supply_null n (r ∷ rs) rest) rest))
-    ∙ ap (λ (w : Amounts (suc n)). done ++ goods_of n (given n r rs later rest later' turn gone) ∷ bundles_of n (shares (suc n) (tables n rs) w)) (minus-is n r rs later rest later' turn gone)
+    ∙ ap (λ (w : Amounts (suc n)). done ++ goods_part n (given n r rs later rest later' turn gone) ∷ bundles_of n (shares (suc n) (tables n rs) w)) (minus-is n r rs later rest later' turn gone)
     ∙ ap (λ (ys : List ℤ). done ++ ys ∷ bundles_of n (shares (suc n) (tables n rs) (amounts_of n (supply_null n rs (subtracted rest ys)) (subtracted rest ys)))) (sym e)
     ∙ sym (append_assoc done (xs ∷ []) _)
 
 pub turn-next : (n : ℕ) (r : List ℤ) (rs : List (List ℤ)) (later rest later' xs : List ℤ) (turn : IsTurn n (r ∷ rs) later rest) (gone : IsDifference (2 ^ suc n) later r later')
-    → xs ≡ goods_of n (given n r rs later rest later' turn gone) → IsTurn n rs later' (subtracted rest xs)
+    → xs ≡ goods_part n (given n r rs later rest later' turn gone) → IsTurn n rs later' (subtracted rest xs)
 turn-next n r rs later rest later' xs turn gone e = subst (λ (ys : List ℤ). IsTurn n rs later' (subtracted rest ys)) (sym e) (next n r rs later rest later' turn gone)
 
 pub map-take-set : {A : Type 0} (f : A → List ℤ) (bs : List A) (k : ℕ) (b : A) → k < length bs → map f (take (suc k) (set bs k b)) ≡ map f (take k bs) ++ f b ∷ []
@@ -126,6 +127,10 @@ map-take-more f bs k b h = rw add-one (map-take-set f bs k b h)
 pub rows-from : (rows : List (List ℤ)) (k : ℕ) (r : List ℤ) → k < length rows → r ≡ get_or rows k r → drop k rows ≡ r ∷ drop (k + 1) rows
 rows-from rows k r h e = drop-cons rows k r h ∙ ap₂ (λ (x : List ℤ) (j : ℕ). x ∷ drop j rows) (sym e) (let e : suc k ≡ k + 1 = omega arith in e)
 
+-- the turn of the k-th row
+pub turn-from : (n k : ℕ) (rows : List (List ℤ)) (r later left : List ℤ) → k < length rows → r ≡ get_or rows k r → IsTurn n (drop k rows) later left → IsTurn n (r ∷ drop (k + 1) rows) later left
+turn-from n k rows r later left h e t = subst (λ (rs : List (List ℤ)). IsTurn n rs later left) (rows-from rows k r h e) t
+
 pub row-lies : (n : ℕ) (r : List ℤ) (rs : List (List ℤ)) → ProperInTurn n (r ∷ rs) → LieWithin (2 ^ suc n) (2 ^ 30) r
 row-lies n r rs p m h = let a = row-range n r rs p m h in (omega (arith, ints, a), omega (arith, ints, a))
 
@@ -136,13 +141,13 @@ later-lies n rs later rest s m h =
     (omega (arith, ints, a, s.later_is m h), omega (arith, ints, a, s.later_is m h))
 
 pub bundle-lies : (n : ℕ) (r : List ℤ) (rs : List (List ℤ)) (later rest later' xs : List ℤ) (turn : IsTurn n (r ∷ rs) later rest) (gone : IsDifference (2 ^ suc n) later r later')
-    → xs ≡ goods_of n (given n r rs later rest later' turn gone) → (length xs ≡ n) × All (Lies 8000000) xs
+    → xs ≡ goods_part n (given n r rs later rest later' turn gone) → (length xs ≡ n) × All (Lies 8000000) xs
 bundle-lies n r rs later rest later' xs turn gone e = (
   ap length e ∙ length-goods n _,
   subst (λ (ys : List ℤ). All (Lies 8000000) ys) (sym e)
       (λ i d h.
       let a = given-range n r rs later rest later' turn gone i (omega (arith, h, length-goods n (given n r rs later rest later' turn gone))) in
-      let b = get_or_default (goods_of n (given n r rs later rest later' turn gone)) i d (pos 0) h in
+      let b = get_or_default (goods_part n (given n r rs later rest later' turn gone)) i d (pos 0) h in
       (omega (arith, ints, a, b), omega (arith, ints, a, b))),
 )
 

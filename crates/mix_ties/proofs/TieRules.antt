@@ -11,9 +11,10 @@ use Rattle.mix_num.specs.Sums.{sum_in, total}
 use Rattle.mix_num.specs.Tables.{Fits, IsLexAtMost, null_share, number_of, whole}
 use Rattle.mix_ties.proofs.PeeledRows.{AreGreatestPeeled, AreProperPeeled, AreSharesPeeled, FitsPeeled, IsLexAtMostPeeled, greatest, rows_at, shared, shares}
 use Rattle.mix_ties.proofs.SetNumbers.{number-every, number-lt, number-none, number-subset, sum_in-number, table-grows, table-submodular}
-use Rattle.mix_ties.specs.Numbered.{amounts_of, goods_of, null_of, number, subset, table_over}
+use Rattle.mix_ties.specs.Numbered.{amounts_of, goods_part, null_part, number, subset, table_over}
 use Rattle.mix_ties.specs.Peeled.{Amounts, Subset, amount_in, every, without, zeros}
-use Rattle.mix_ties.specs.Shares.{AreShares, KeepTieRule, sum_at, supply_null}
+use Rattle.mix_num.specs.Shares.{AreShares, sum_at, supply_null}
+use Rattle.mix_ties.specs.Shares.{KeepTieRule}
 use Rattle.mix_ties.specs.Turns.{AreGreatestInTurn, ProperInTurn, ShareInTurn, nothing, subtracted}
 
 -- rows as tables over the choices, and bundles with their null shares
@@ -28,7 +29,7 @@ vectors n (r ∷ rs) (x ∷ xs) = amounts_of n (null_share n r x) x ∷ vectors 
 
 abbrev pub bundles_of : (n : ℕ) → List (Amounts (suc n)) → List (List ℤ)
 bundles_of n [] = []
-bundles_of n (y ∷ ys) = goods_of n y ∷ bundles_of n ys
+bundles_of n (y ∷ ys) = goods_part n y ∷ bundles_of n ys
 
 pub without-amounts : (n : ℕ) (a b : ℤ) (t x : List ℤ) → length t ≡ n → length x ≡ n → without (suc n) (amounts_of n a t) (amounts_of n b x) ≡ amounts_of n (a -ℤ b) (subtracted t x)
 without-amounts zero a b t x p q = refl
@@ -62,29 +63,29 @@ fits-in n numbers xs f = record {
   exact = omega (arith, ints, sum-whole n (null_share n numbers xs) xs f.size, whole-is n numbers);
 }
 
-pub amounts-of : (n : ℕ) (y : Amounts (suc n)) → amounts_of n (null_of n y) (goods_of n y) ≡ y
+pub amounts-of : (n : ℕ) (y : Amounts (suc n)) → amounts_of n (null_part n y) (goods_part n y) ≡ y
 amounts-of zero y = refl
 amounts-of (suc n) y = ap (λ (w : Amounts (suc n)). (y.0, w)) (amounts-of n y.1)
 
-pub length-goods : (n : ℕ) (y : Amounts (suc n)) → length (goods_of n y) ≡ n
+pub length-goods : (n : ℕ) (y : Amounts (suc n)) → length (goods_part n y) ≡ n
 length-goods zero y = refl
 length-goods (suc n) y = omega (arith, length-goods n y.1)
 
-pub null-is : (n : ℕ) (numbers : List ℤ) (y : Amounts (suc n)) → FitsPeeled (suc n) (table_over n numbers) y → null_of n y ≡ null_share n numbers (goods_of n y)
+pub null-is : (n : ℕ) (numbers : List ℤ) (y : Amounts (suc n)) → FitsPeeled (suc n) (table_over n numbers) y → null_part n y ≡ null_share n numbers (goods_part n y)
 null-is n numbers y f =
     let e = ap (λ (w : Amounts (suc n)). amount_in (suc n) w (every (suc n))) (amounts-of n y) in
-    omega (arith, ints, e, f.exact, sum-whole n (null_of n y) (goods_of n y) (length-goods n y), whole-is n numbers)
+    omega (arith, ints, e, f.exact, sum-whole n (null_part n y) (goods_part n y) (length-goods n y), whole-is n numbers)
 
-pub fits-out : (n : ℕ) (numbers : List ℤ) (y : Amounts (suc n)) → FitsPeeled (suc n) (table_over n numbers) y → Fits n numbers (goods_of n y)
+pub fits-out : (n : ℕ) (numbers : List ℤ) (y : Amounts (suc n)) → FitsPeeled (suc n) (table_over n numbers) y → Fits n numbers (goods_part n y)
 fits-out n numbers y f = record {
   size = length-goods n y;
   within = λ m h.
-      let e : sum_in (null_share n numbers (goods_of n y) ∷ goods_of n y) (number n (subset n m)) ≡ amount_in (suc n) y (subset n m) =
-      sum_in-number n _ (goods_of n y) (subset n m) (length-goods n y)
-      ∙ ap (λ (a : ℤ). amount_in (suc n) (amounts_of n a (goods_of n y)) (subset n m)) (sym (null-is n numbers y f))
+      let e : sum_in (null_share n numbers (goods_part n y) ∷ goods_part n y) (number n (subset n m)) ≡ amount_in (suc n) y (subset n m) =
+      sum_in-number n _ (goods_part n y) (subset n m) (length-goods n y)
+      ∙ ap (λ (a : ℤ). amount_in (suc n) (amounts_of n a (goods_part n y)) (subset n m)) (sym (null-is n numbers y f))
       ∙ ap (λ (w : Amounts (suc n)). amount_in (suc n) w (subset n m)) (amounts-of n y) in
-      let g : sum_in (null_share n numbers (goods_of n y) ∷ goods_of n y) (number n (subset n m)) ≤ℤ get_or numbers (number n (subset n m)) (pos 0) = rw e (f.within (subset n m)) in
-      subst (λ (i : ℕ). sum_in (null_share n numbers (goods_of n y) ∷ goods_of n y) i ≤ℤ get_or numbers i (pos 0)) (number-subset n m h) g;
+      let g : sum_in (null_share n numbers (goods_part n y) ∷ goods_part n y) (number n (subset n m)) ≤ℤ get_or numbers (number n (subset n m)) (pos 0) = rw e (f.within (subset n m)) in
+      subst (λ (i : ℕ). sum_in (null_share n numbers (goods_part n y) ∷ goods_part n y) i ≤ℤ get_or numbers i (pos 0)) (number-subset n m h) g;
 }
 
 amounts-nothing : (n : ℕ) → amounts_of n (pos 0) (nothing n) ≡ zeros (suc n)
@@ -95,11 +96,11 @@ total-nothing : (n : ℕ) → total (nothing n) ≡ pos 0
 total-nothing zero = total-none
 total-nothing (suc n) = omega (arith, ints, total-nothing n, total-cons (pos 0) (nothing n))
 
-goods-zeros : (n : ℕ) → goods_of n (zeros (suc n)) ≡ nothing n
+goods-zeros : (n : ℕ) → goods_part n (zeros (suc n)) ≡ nothing n
 goods-zeros zero = refl
 goods-zeros (suc n) = ap (λ (w : List ℤ). pos 0 ∷ w) (goods-zeros n)
 
-goods-amounts : (n : ℕ) (a : ℤ) (xs : List ℤ) → length xs ≡ n → goods_of n (amounts_of n a xs) ≡ xs
+goods-amounts : (n : ℕ) (a : ℤ) (xs : List ℤ) → length xs ≡ n → goods_part n (amounts_of n a xs) ≡ xs
 goods-amounts zero a [] e = refl
 goods-amounts zero a (x ∷ xs) e = absurd (omega arith)
 goods-amounts (suc n) a [] e = absurd (omega arith)
@@ -129,20 +130,20 @@ shares-in n (r ∷ rs) (x ∷ xs) t p h =
 
 -- the same for amounts that fit the row
 pub left-of : (n : ℕ) (r : List ℤ) (rs : List (List ℤ)) (t : List ℤ) (y : Amounts (suc n)) → length t ≡ n → FitsPeeled (suc n) (table_over n r) y
-    → without (suc n) (amounts_of n (supply_null n (r ∷ rs) t) t) y ≡ amounts_of n (supply_null n rs (subtracted t (goods_of n y))) (subtracted t (goods_of n y))
+    → without (suc n) (amounts_of n (supply_null n (r ∷ rs) t) t) y ≡ amounts_of n (supply_null n rs (subtracted t (goods_part n y))) (subtracted t (goods_part n y))
 left-of n r rs t y p f =
     ap (λ (w : Amounts (suc n)). without (suc n) (amounts_of n (supply_null n (r ∷ rs) t) t) w) (sym (amounts-of n y))
-    ∙ ap (λ (a : ℤ). without (suc n) (amounts_of n (supply_null n (r ∷ rs) t) t) (amounts_of n a (goods_of n y))) (null-is n r y f)
-    ∙ left-vector n r rs t (goods_of n y) p (length-goods n y)
+    ∙ ap (λ (a : ℤ). without (suc n) (amounts_of n (supply_null n (r ∷ rs) t) t) (amounts_of n a (goods_part n y))) (null-is n r y f)
+    ∙ left-vector n r rs t (goods_part n y) p (length-goods n y)
 
 pub shares-out : (n : ℕ) (rs : List (List ℤ)) (ys : List (Amounts (suc n))) (t : List ℤ) → length t ≡ n
     → AreSharesPeeled (suc n) (tables n rs) ys (amounts_of n (supply_null n rs t) t) → ShareInTurn n rs (bundles_of n ys) t
-shares-out n [] [] t p h = sym (goods-amounts n _ t p) ∙ ap (λ (w : Amounts (suc n)). goods_of n w) h ∙ goods-zeros n
+shares-out n [] [] t p h = sym (goods-amounts n _ t p) ∙ ap (λ (w : Amounts (suc n)). goods_part n w) h ∙ goods-zeros n
 shares-out n [] (y ∷ ys) t p h = absurd h
 shares-out n (r ∷ rs) [] t p h = absurd h
 shares-out n (r ∷ rs) (y ∷ ys) t p h = (
   fits-out n r y h.0,
-  shares-out n rs ys (subtracted t (goods_of n y)) (length-less t (goods_of n y) (p ∙ sym (length-goods n y)) ∙ p)
+  shares-out n rs ys (subtracted t (goods_part n y)) (length-less t (goods_part n y) (p ∙ sym (length-goods n y)) ∙ p)
       (subst (λ (w : Amounts (suc n)). AreSharesPeeled (suc n) (tables n rs) ys w) (left-of n r rs t y p h.0) h.1),
 )
 
@@ -156,11 +157,11 @@ lex-level x y xs ys h rest =
     let e : int_cmp x y ≡ Equal = sym (int_cmp_is x y Equal h) in
     subst (λ (o : Ordering). ordering_then o (slice_cmp int_cmp xs ys) ≢ Greater) (sym e) rest
 
-lex-out : (n : ℕ) (a : ℤ) (z : List ℤ) (y : Amounts (suc n)) → length z ≡ n → IsLexAtMostPeeled (suc n) (amounts_of n a z) y → IsLexAtMost z (goods_of n y)
+lex-out : (n : ℕ) (a : ℤ) (z : List ℤ) (y : Amounts (suc n)) → length z ≡ n → IsLexAtMostPeeled (suc n) (amounts_of n a z) y → IsLexAtMost z (goods_part n y)
 lex-out zero a [] y e h = λ q. cc
 lex-out zero a (x ∷ z) y e h = absurd (omega arith)
 lex-out (suc n) a [] y e h = absurd (omega arith)
-lex-out (suc n) a (x ∷ z) y e h = elim h [ inl lt ↦ lex-below x y.0 z (goods_of n y.1) lt | inr same ↦ lex-level x y.0 z (goods_of n y.1) same.0 (lex-out n a z y.1 (omega arith) same.1) ]
+lex-out (suc n) a (x ∷ z) y e h = elim h [ inl lt ↦ lex-below x y.0 z (goods_part n y.1) lt | inr same ↦ lex-level x y.0 z (goods_part n y.1) same.0 (lex-out n a z y.1 (omega arith) same.1) ]
 
 pub greatest-out : (n : ℕ) (rs : List (List ℤ)) (ys : List (Amounts (suc n))) (t : List ℤ) → length t ≡ n
     → AreSharesPeeled (suc n) (tables n rs) ys (amounts_of n (supply_null n rs t) t) → AreGreatestPeeled (suc n) (tables n rs) ys (amounts_of n (supply_null n rs t) t)
@@ -172,7 +173,7 @@ greatest-out n (r ∷ rs) (y ∷ ys) t p s h = (
       (h.0 (amounts_of n (null_share n r z) z) (vectors n rs zs) (fits-in n r z f)
       (subst (λ (w : Amounts (suc n)). AreSharesPeeled (suc n) (tables n rs) (vectors n rs zs) w) (sym (left-vector n r rs t z p f.size))
       (shares-in n rs zs (subtracted t z) (length-less t z (p ∙ sym f.size) ∙ p) c)))),
-  greatest-out n rs ys (subtracted t (goods_of n y)) (length-less t (goods_of n y) (p ∙ sym (length-goods n y)) ∙ p)
+  greatest-out n rs ys (subtracted t (goods_part n y)) (length-less t (goods_part n y) (p ∙ sym (length-goods n y)) ∙ p)
       (subst (λ (w : Amounts (suc n)). AreSharesPeeled (suc n) (tables n rs) ys w) (left-of n r rs t y p s.0) s.1)
       (subst (λ (w : Amounts (suc n)). AreGreatestPeeled (suc n) (tables n rs) ys w) (left-of n r rs t y p s.0) h.1),
 )

@@ -7,7 +7,8 @@ use Rattle.std.specs.Int.Bits.{and_lt}
 use Rattle.mix_num.specs.Sums.{total, sum_in}
 use Rattle.mix_num.specs.Tables.{IsProper, number_of, whole}
 use Rattle.mix_num.proofs.Additions.{sum_in-none, sum_in-cons, total-none, total-cons}
-use Rattle.mix_ties.specs.Shares.{AreProper, LiesInSum, sum_at, supply_null}
+use Rattle.mix_num.specs.Shares.{sum_at, supply_null}
+use Rattle.mix_ties.specs.Shares.{AreProper, LiesInSum}
 
 -- a table over n goods whose numbers are 0
 abbrev IsZero : ℕ → List ℤ → Type 0

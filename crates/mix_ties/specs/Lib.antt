@@ -1,5 +1,6 @@
 pub mod Peeled
 pub mod Numbered
+pub mod Levels
 pub mod Shares
+pub mod Tights
 pub mod Turns
-pub mod Returns

@@ -1,4 +1,5 @@
--- Tables as lists of numbers, one for each set by the number of its bits: the null choice is bit 0, good i is bit i.
+-- Tables as lists of numbers, one for each set by the number of its bits: the null choice is bit 0, good i is bit i. For proofs; no public
+-- clause rests on it.
 use Rattle.std.specs.Prelude.{◌≡◌, ℕ, zero, suc, ◌+◌, ◌*◌, ◌/◌, ◌%◌, ◌^◌, ◌<◌, ◌-◌, Bool, true, false, cond, ◌==◌, ℤ, pos, ◌-ℤ◌, List, [], ◌∷◌}
 use Rattle.std.specs.Int.{int_min, int_max}
 use Rattle.mix_num.specs.Ranges.{Lies}
@@ -34,13 +35,13 @@ amounts_of (suc n) null [] = (pos 0, amounts_of n null [])
 amounts_of (suc n) null (x ∷ xs) = (x, amounts_of n null xs)
 
 -- the goods of amounts, and their null share
-abbrev pub goods_of : (n : ℕ) → Amounts (suc n) → List ℤ
-goods_of zero y = []
-goods_of (suc n) y = y.0 ∷ goods_of n y.1
+abbrev pub goods_part : (n : ℕ) → Amounts (suc n) → List ℤ
+goods_part zero y = []
+goods_part (suc n) y = y.0 ∷ goods_part n y.1
 
-abbrev pub null_of : (n : ℕ) → Amounts (suc n) → ℤ
-null_of zero y = y.0
-null_of (suc n) y = null_of n y.1
+abbrev pub null_part : (n : ℕ) → Amounts (suc n) → ℤ
+null_part zero y = y.0
+null_part (suc n) y = null_part n y.1
 
 -- the first numbers of a table lie within a bound
 abbrev pub LieWithin : ℕ → ℕ → List ℤ → Type 0
@@ -67,8 +68,8 @@ first_gap upper lower set = number_of upper (with_first true set) -ℤ number_of
 -- the first of k + 1 goods has its greatest amount, and the new tables are those over the k goods after it
 unfoldable pub IsGiven : ℕ → List ℤ → List ℤ → ℤ → List ℤ → List ℤ → Type 0
 IsGiven k upper lower amount upper' lower' =
-    goods_of (suc k) (greedy (suc (suc k)) (table_over (suc k) upper) (table_over (suc k) lower))
-    ≡ amount ∷ goods_of k (greedy (suc k) (table_over k upper') (table_over k lower'))
+    goods_part (suc k) (greedy (suc (suc k)) (table_over (suc k) upper) (table_over (suc k) lower))
+    ≡ amount ∷ goods_part k (greedy (suc k) (table_over k upper') (table_over k lower'))
 
 -- what is left of a supply at each set, less what the later rows take there
 abbrev pub floor_over : (n : ℕ) → ℤ → List ℤ → List ℤ → Subset (suc n) → ℤ

@@ -1,27 +1,13 @@
 -- Sharing a supply among rows of tables, and the tie rule.
-use Rattle.std.specs.Prelude.{◌≡◌, ℕ, suc, ◌^◌, ◌<◌, ℤ, pos, ◌+ℤ◌, ◌-ℤ◌, ◌≤ℤ◌, List, [], ◌∷◌, ◌++◌, length, get_or, take}
-use Rattle.mix_num.specs.Sums.{total, sum_in}
-use Rattle.mix_num.specs.Tables.{Fits, IsProper, IsLexAtMost, whole}
+use Rattle.std.specs.Prelude.{◌≡◌, ℕ, suc, ◌^◌, ◌<◌, ℤ, ◌≤ℤ◌, List, [], ◌∷◌, ◌++◌, length, get_or, take}
+use Rattle.mix_num.specs.Sums.{sum_in}
+use Rattle.mix_num.specs.Tables.{IsProper, IsLexAtMost}
+use Rattle.mix_num.specs.Shares.{AreShares, sum_at, supply_null}
 
 -- what contracts see of the tables: the number of goods, and a table for each member
 pub record TableRows : Type 0 where
   pub goods : ℕ
   pub rows : List (List ℤ)
-
--- the sum of the numbers that stand at one place of each list
-abbrev pub sum_at : List (List ℤ) → ℕ → ℤ
-sum_at [] k = pos 0
-sum_at (xs ∷ lists) k = get_or xs k (pos 0) +ℤ sum_at lists k
-
--- the null share of a supply: the rows' numbers of the whole set less the supply of all goods
-abbrev pub supply_null : ℕ → List (List ℤ) → List ℤ → ℤ
-supply_null n rows supply = sum_at rows (whole n) -ℤ total supply
-
--- a bundle for each row, which fits it, and in each good they add up to the supply
-pub record AreShares (n : ℕ) (rows bundles : List (List ℤ)) (supply : List ℤ) : Type 0 where
-  pub count : length bundles ≡ length rows
-  pub fit : (k : ℕ) → k < length rows → Fits n (get_or rows k []) (get_or bundles k [])
-  pub sum : (i : ℕ) → i < n → sum_at bundles i ≡ get_or supply i (pos 0)
 
 -- the tie rule: in order, each bundle is the lexicographically greatest that extends, after those before it, to shares of all rows
 abbrev pub KeepTieRule : ℕ → List (List ℤ) → List (List ℤ) → List ℤ → Type 0

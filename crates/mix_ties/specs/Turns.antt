@@ -1,9 +1,9 @@
--- Sharing row by row: what is left of the supply, and the rows that share it.
+-- Sharing row by row: what is left of the supply, and the rows that share it. For proofs; no public clause rests on it.
 use Rattle.std.specs.Prelude.{◌≡◌, ℕ, zero, suc, ◌^◌, ◌<◌, ◌≤◌, ℤ, pos, ◌-ℤ◌, ◌≤ℤ◌, List, [], ◌∷◌, length, get_or}
 use Rattle.mix_num.specs.Sums.{sum_in}
 use Rattle.mix_num.specs.Tables.{Fits, IsProper, IsLexAtMost, number_of}
 use Rattle.mix_num.specs.Sellers.{IsAmount}
-use Rattle.mix_ties.specs.Shares.{sum_at, supply_null}
+use Rattle.mix_num.specs.Shares.{sum_at, supply_null}
 
 -- what is left of a supply once a bundle is taken
 abbrev pub subtracted : List ℤ → List ℤ → List ℤ

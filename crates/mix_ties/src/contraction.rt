@@ -2,7 +2,7 @@
 ghost use Rattle.std.specs.Prelude.{◌≡◌, ℕ, suc, ◌*◌, ◌%◌, ◌<◌, ◌≤◌, ◌^◌, length, ◌≤ℤ◌};
 ghost use Rattle.mix_num.specs.Ranges.{Lies};
 ghost use Rattle.mix_ties.specs.Peeled.{greedy};
-ghost use Rattle.mix_ties.specs.Numbered.{table_over, LieWithin, IsCut, IsLift, first_gap, room, IsGiven, goods_of};
+ghost use Rattle.mix_ties.specs.Numbered.{table_over, LieWithin, IsCut, IsLift, first_gap, room, IsGiven, goods_part};
 
 use arrayvec::ArrayVec;
 use mix_num::Bundle;
@@ -16,7 +16,7 @@ pub fn greatest(upper: &mut [i64], lower: &mut [i64], goods: usize) -> Bundle
     requires lower_size { 2 ^ suc goods ≤ length lower.old }
     requires upper_range { LieWithin (2 ^ suc goods) (room goods) upper.old }
     requires lower_range { LieWithin (2 ^ suc goods) (room goods) lower.old }
-    ensures { result.items ≡ goods_of goods (greedy (suc goods) (table_over goods upper.old) (table_over goods lower.old)) }
+    ensures { result.items ≡ goods_part goods (greedy (suc goods) (table_over goods upper.old) (table_over goods lower.old)) }
 {
     let mut amounts = ArrayVec::new();
     let mut left = goods;

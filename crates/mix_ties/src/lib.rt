@@ -3,6 +3,7 @@
 #![tactic(auto)]
 
 mod contraction;
+mod pairs;
 mod rows;
 mod tables;
 #[cfg(test)]

@@ -3,11 +3,11 @@ ghost use Rattle.std.specs.Prelude.{◌≡◌, suc, ◌^◌, ◌<◌, ◌≤◌,
 ghost use Rattle.mix_num.specs.Ranges.{Lies};
 ghost use Rattle.mix_num.specs.Tables.{number_of};
 ghost use Rattle.mix_ties.specs.Numbered.{LieWithin, IsDifference, IsCopy, IsFloor};
-ghost use Rattle.mix_ties.specs.Shares.{sum_at};
+ghost use Rattle.mix_num.specs.Shares.{sum_at};
 ghost use Rattle.mix_ties.specs.Turns.{subtracted};
 
 use arrayvec::ArrayVec;
-use mix_demand::{Rho, add_numbers};
+use mix_demand::Rho;
 use mix_num::{Bundle, Set, sum_over};
 
 /// Writes the sum of the rows, set by set.
@@ -19,7 +19,7 @@ pub fn sum_rows(rows: &[Rho], sum: &mut [i64])
 {
     sum.fill(0);
     for row in rows {
-        add_numbers(sum, row.numbers());
+        row.add_to(sum);
     }
 }
 
@@ -89,4 +89,32 @@ pub fn copy_of(bundle: &Bundle) -> Bundle
         copy.push(*amount);
     }
     copy
+}
+
+#[cfg(test)]
+mod tests {
+    use super::*;
+    use crate::tests::table;
+    use std::test::Fail;
+
+    /// What a unit of each of two goods, with the null share 3, leaves once the later rows took what they can.
+    fn floor_of(later: [i8; 8]) -> [i64; 8] {
+        let mut left = Bundle::new();
+        left.push(1);
+        left.push(1);
+        let mut floor = [0; 8];
+        fill_floor(&mut floor, &left, 3, &table(later), 8);
+        floor
+    }
+
+    // The totals are 2, 1 and 2: those of the first bidder, the second, and the seller.
+    #[test]
+    fn floors(rt: HostRuntime) -> Result<(), Fail> {
+        assert_eq!(rt; floor_of([0; 8]), [0, 3, 1, 4, 1, 4, 2, 5]);
+        assert_eq!(rt;
+            floor_of([0, 2, 1, 3, 1, 2, 2, 3]),
+            [0, 1, 0, 1, 0, 2, 0, 2]
+        );
+        Ok(())
+    }
 }

@@ -1,17 +1,19 @@
 // The tables of all members, and sharing by them.
-ghost use Rattle.std.specs.Prelude.{◌≡◌, ◌≢◌, ◌<◌, ◌≤◌, ◌^◌, ℕ, suc, pos, All, [], ◌∷◌, ◌++◌, length, map, replicate, slice_index_or, IfOk, OnOk};
+ghost use Rattle.std.specs.Prelude.{◌≡◌, ◌≢◌, ◌<◌, ◌≤◌, ◌^◌, ◌-◌, ◌*◌, ℕ, suc, pos, All, [], ◌∷◌, ◌++◌, length, map, replicate, slice_index_or, IfOk, OnOk};
 ghost use Rattle.mix_num.specs.Ranges.{HaveRoom};
 ghost use Rattle.mix_num.specs.Sellers.{IsAmount};
 ghost use Rattle.mix_num.specs.Tables.{IsProper};
 ghost use Rattle.mix_law.specs.Demands.{IsTableOf};
-ghost use Rattle.mix_ties.specs.Shares.{AreShares, KeepTieRule, AreProper, LiesInSum};
+ghost use Rattle.mix_num.specs.Shares.{AreShares};
+ghost use Rattle.mix_ties.specs.Shares.{KeepTieRule, AreProper, LiesInSum};
+ghost use Rattle.mix_ties.specs.Tights.{AreFirstTights};
 
 use crate::contraction::sets_of;
 use crate::rows::sum_rows;
 use crate::turn::share_in_turn;
 use mix_demand::Rho;
 use mix_law::Convex;
-use mix_num::{Bundle, Memory, Prices};
+use mix_num::{Bundle, Memory, Prices, Tight};
 use std::alloc::Global;
 use std::marker::Model;
 
@@ -23,6 +25,7 @@ pub struct Tables {
     goods: usize,
     rows: Vec<Rho>,
     later: Vec<i64>,
+    floor: Vec<i64>,
     upper: Vec<i64>,
     lower: Vec<i64>,
 }
@@ -40,6 +43,7 @@ impl Model for Tables {
       few : length t.rows.items ≤ 257;
       sizes : All (λ row. length row ≡ 2 ^ suc t.goods) t.rows.items;
       later : length t.later.items ≡ 2 ^ suc t.goods;
+      floor : length t.floor.items ≡ 2 ^ suc t.goods;
       upper : length t.upper.items ≡ 2 ^ suc t.goods;
       lower : length t.lower.items ≡ 2 ^ suc t.goods;
     } };
@@ -62,6 +66,7 @@ impl Tables {
             goods,
             rows,
             later: room(alloc, goods)?,
+            floor: room(alloc, goods)?,
             upper: room(alloc, goods)?,
             lower: room(alloc, goods)?,
         })
@@ -82,26 +87,33 @@ impl Tables {
     }
 }
 
-/// Shares the supply among the rows by the tie rule, and writes the bundle of each row into its place.
+/// Shares the supply among the rows by the tie rule, and writes the bundle of each row into its place, and the first tight
+/// pairs: one for each good of the first row, then those of the second, and so on. The last row is the seller's, and has
+/// no pairs.
 ///
 /// Every row is proper, as rows that were filled are; supplies lie from 0 to 1,000,000; and the supply lies in the sum of
-/// the rows. Nothing is said of the rows afterwards.
-pub fn share(tables: &mut Tables, supply: &Bundle, bundles: &mut [Bundle])
+/// the rows. There is a place for each row's bundle, and for each row but the last as many places for pairs as there are
+/// goods. Nothing is said of the rows afterwards.
+pub fn share(tables: &mut Tables, supply: &Bundle, bundles: &mut [Bundle], tights: &mut [Tight])
     requires proper { AreProper tables.old.goods tables.old.rows }
     requires supply { All IsAmount supply.now.items }
     requires places { length bundles.old ≡ length tables.old.rows }
+    requires tight_places { length tights.old ≡ (length tables.old.rows - 1) * tables.old.goods }
     requires lies { LiesInSum tables.old.goods tables.old.rows supply.now.items }
     ensures goods { tables.new.goods ≡ tables.old.goods }
     ensures members { length tables.new.rows ≡ length tables.old.rows }
     ensures shares { AreShares tables.old.goods tables.old.rows (map (λ b. b.items) bundles.new) supply.now.items }
     ensures tie_rule { KeepTieRule tables.old.goods tables.old.rows (map (λ b. b.items) bundles.new) supply.now.items }
+    ensures tights { AreFirstTights tables.old.goods tables.old.rows supply.now.items (map (λ b. b.items) bundles.new) tights.new }
 {
     sum_rows(&tables.rows, &mut tables.later);
     share_in_turn(
         &tables.rows,
         supply,
         bundles,
+        tights,
         &mut tables.later,
+        &mut tables.floor,
         &mut tables.upper,
         &mut tables.lower,
     );

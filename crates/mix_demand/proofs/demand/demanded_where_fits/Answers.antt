@@ -1,4 +1,4 @@
-use Rattle.mix_demand.proofs.Demanded.{demanded-where_fits, fits-where_demanded}
+use Rattle.mix_law.proofs.Demanded.{demanded-where_fits, fits-where_demanded}
 use Rattle.mix_demand.proofs.demand.demanded_where_fits.Goals as goal
 
 pub returns : goal.returns

@@ -1,5 +1,5 @@
 use Rattle.std.proofs.Common.{◌≡◌, suc, ◌+◌, ◌^◌, ◌++◌, length}
-use Rattle.mix_ties.specs.Numbered.{LieWithin, goods_of, room, table_over}
+use Rattle.mix_ties.specs.Numbered.{LieWithin, goods_part, room, table_over}
 use Rattle.mix_ties.specs.Peeled.{greedy}
 use Rattle.mix_ties.proofs.contraction.greatest.Given as goal
 
@@ -10,8 +10,8 @@ invariant-loop-left l = record {
   lower_size : length l.lower ≡ length l.fn.lower;
   upper_room : LieWithin (2 ^ suc l.left) (room l.left) l.upper;
   lower_room : LieWithin (2 ^ suc l.left) (room l.left) l.lower;
-  value : goods_of l.fn.goods (greedy (suc l.fn.goods) (table_over l.fn.goods l.fn.upper) (table_over l.fn.goods l.fn.lower))
-      ≡ l.amounts.items ++ goods_of l.left (greedy (suc l.left) (table_over l.left l.upper) (table_over l.left l.lower));
+  value : goods_part l.fn.goods (greedy (suc l.fn.goods) (table_over l.fn.goods l.fn.upper) (table_over l.fn.goods l.fn.lower))
+      ≡ l.amounts.items ++ goods_part l.left (greedy (suc l.left) (table_over l.left l.upper) (table_over l.left l.lower));
 }
 
 abbrev pub decreases-loop-left : goal.decreases-loop-left

@@ -1,7 +1,7 @@
 use Rattle.std.proofs.Common.{◌≡◌, ℕ, ◌<◌, ◌*◌, take, length}
 use Rattle.mix_num.specs.Tables.{number_of}
 use Rattle.mix_ties.specs.Numbered.{LieWithin}
-use Rattle.mix_ties.specs.Shares.{sum_at}
+use Rattle.mix_num.specs.Shares.{sum_at}
 use Rattle.mix_ties.proofs.rows.sum_rows.Given as goal
 
 abbrev pub invariant-loop-row : goal.invariant-loop-row

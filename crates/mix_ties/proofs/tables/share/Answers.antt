@@ -1,7 +1,8 @@
 use Rattle.mix_ties.proofs.tables.share.Goals as goal
 use Rattle.std.proofs.Common.{◌≡◌, ℕ, suc, ◌<◌, ◌^◌, ◌++◌, List, take, drop, length, ℤ, sym, ap, subst, ◌∙◌}
 use Rattle.std.proofs.Math.Seq.{take-append_seam}
-use Rattle.mix_ties.specs.Shares.{AreProper, LiesInSum, sum_at}
+use Rattle.mix_num.specs.Shares.{sum_at}
+use Rattle.mix_ties.specs.Shares.{AreProper, LiesInSum}
 use Rattle.mix_ties.proofs.RowTurns.{rows-lie, first-turn}
 
 pub sum_rows-requires-clause-range : goal.sum_rows-requires-clause-range
