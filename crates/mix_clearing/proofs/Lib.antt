@@ -1,0 +1,17 @@
+pub mod PriceLists
+pub mod ClearingPrices
+pub mod LeastClearing
+pub mod SingleSteps
+pub mod LyapunovLaws
+pub mod FallingPrices
+pub mod Completions
+pub mod Worths
+pub mod TableLists
+pub mod TieRules
+pub mod CheckedOutcomes
+pub mod Fractions
+pub mod UtilityOrders
+pub mod ClearedAmounts
+pub mod SupplyDemanded
+pub mod Solutions
+pub mod MarketUtilities

@@ -1,0 +1,7 @@
+pub mod Clearings
+pub mod Completions
+pub mod Values
+pub mod Scales
+pub mod Certificates
+pub mod Lowerings
+pub mod Utilities

@@ -1,0 +1,2 @@
+mod ReceiptSums
+pub mod PaymentBounds
