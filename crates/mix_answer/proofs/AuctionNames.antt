@@ -12,3 +12,7 @@ good_named auction choice some h = auction.sound.goods.form (choice - 1) [] (ome
 pub good_text : (goods : List (List ℕ)) (choice : ℕ) → 0 < choice → choice_text goods choice ≡ slice_index_or goods (choice - 1) []
 good_text goods zero some = absurd (omega arith)
 good_text goods (suc k) some = let before : suc k - 1 ≡ k = omega arith in rw before refl
+
+-- the name of the good at a place
+pub good_at_named : (auction : Auction) (j : ℕ) → j < length auction.goods → is_name (slice_index_or auction.goods j []) ≡ true
+good_at_named auction j h = auction.sound.goods.form j [] h

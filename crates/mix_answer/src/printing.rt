@@ -6,7 +6,7 @@ ghost use Rattle.mix_answer.specs.Shapes.{HasShape};
 ghost use Rattle.mix_answer.specs.Outcomes.{inner_rows, outcome_text};
 
 use crate::outcome::Outcome;
-use crate::rows::{add_end, add_head, add_refusal};
+use crate::rows::{add_answer, add_end, add_head, add_refusal};
 use mix_num::Memory;
 use mix_text::{Auction, Page};
 use std::alloc::Global;
@@ -20,6 +20,7 @@ fn add_inner(page: &mut Page, auction: &Auction, outcome: &Outcome) -> Result<()
 {
     match outcome {
         Outcome::Refused(refusal) => add_refusal(page, auction, refusal),
+        Outcome::Cleared(answer) => add_answer(page, auction, answer),
     }
 }
 

@@ -3,7 +3,7 @@ use Rattle.std.proofs.Common.{◌≡◌, ◌<◌, ◌+◌, ◌-◌, ◌*◌, ℕ
 use Rattle.std.proofs.lemmas.Bool.Decides.{nat_tests}
 use Rattle.std.proofs.lemmas.Int.{ints}
 use Rattle.std.proofs.lemmas.List.{take_more}
-use Rattle.mix_text.specs.Spelling.{value_after, within}
+use Rattle.mix_text.specs.Spelling.{value_after, between}
 
 value_after-append : (n : ℕ) (digits : List ℕ) (c : ℕ) → value_after n (digits ++ (c ∷ [])) ≡ value_after n digits * 10 + (c - 48)
 value_after-append n [] c = refl
@@ -15,11 +15,11 @@ value_after-take digits i lt = ap (value_after 0) (take_more digits i 0 lt) ∙ 
 
 -- a number past every range is outside also where it is cut off
 pub capped_plain : (low high : ℤ) (v : ℕ) → high ≤ℤ pos 10000000000000
-    → within low high (Some (pos (min v 100000000000000))) ≡ within low high (Some (pos v))
-unfolding within
+    → between low high (Some (pos (min v 100000000000000))) ≡ between low high (Some (pos v))
+unfolding between
 capped_plain low high v h = grind (arith, ints, nat_tests)
 
 pub capped_negative : (low high : ℤ) (v : ℕ) → neg_ℤ (pos 10000000000000) ≤ℤ low
-    → within low high (Some (neg_ℤ (pos (min v 100000000000000)))) ≡ within low high (Some (neg_ℤ (pos v)))
-unfolding within
+    → between low high (Some (neg_ℤ (pos (min v 100000000000000)))) ≡ between low high (Some (neg_ℤ (pos v)))
+unfolding between
 capped_negative low high v h = grind (arith, ints, nat_tests)

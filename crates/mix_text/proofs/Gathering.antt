@@ -83,7 +83,7 @@ pub different_unlike : (names : List (List ℕ)) → Unlike (different names)
 different_unlike [] = tt
 different_unlike (y ∷ ys) = (not_among_itself y (different ys), unlike_filter y (different ys) (different_unlike ys))
 
-keeps_all : (y : List ℕ) (names : List (List ℕ)) → is_among y names ≡ false → filter (unlike y) names ≡ names
+pub keeps_all : (y : List ℕ) (names : List (List ℕ)) → is_among y names ≡ false → filter (unlike y) names ≡ names
 keeps_all y [] h = refl
 keeps_all y (z ∷ zs) h = elim (cases_Bool (bytes_eq y z)) [
   | inl t ↦ absurd (let q = rw t at h in true≢false q)

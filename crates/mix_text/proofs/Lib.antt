@@ -5,13 +5,13 @@ mod Marks
 pub mod PrintedNumbers
 mod PrintedRows
 pub mod ReadBack
-mod Records
+pub mod Records
 pub mod Spellings
 mod Turns
-mod Gathering
-mod Bids
+pub mod Gathering
+pub mod Bids
 mod Keys
-mod Steps
+pub mod Steps
 pub mod Sound
 pub mod SoundAuctions
 pub mod AuctionNames

@@ -10,11 +10,11 @@ use Rattle.std.proofs.lemmas.List.Elements.{All-cons}
 use Rattle.mix_num.specs.Ranges.{Lies}
 use Rattle.mix_bids.specs.Bids.{IsBid}
 use Rattle.mix_bids.specs.Offers.{IsOffer, offers_some}
-use Rattle.mix_text.specs.Spelling.{is_name, name_of, number_of}
+use Rattle.mix_text.specs.Spelling.{is_name, spelled_name, spelled_number}
 use Rattle.mix_text.specs.Reading.{◌>>=◌, NamedBid, begins, bid_of, bid_row_of, each_of, field_at, holds, number_in, numbers_of, value_of, weight_of}
 use Rattle.mix_text.specs.declared.faults.Code.{Code}
 use Rattle.mix_text.specs.declared.faults.Code.TheVariants as code
-use Rattle.mix_text.proofs.Spellings.{name_read, within_range}
+use Rattle.mix_text.proofs.Spellings.{name_read, between_range}
 
 -- ---- steps of a reading that went well
 
@@ -27,7 +27,7 @@ holds_ok true c u e = refl
 holds_ok false c u e = cc e
 
 pub number_ok : (low high : ℤ) (field : List ℕ) (w : ℤ) → number_in low high field ≡ Ok w → (low ≤ℤ w) × (w ≤ℤ high)
-number_ok low high field w e = within_range low high (number_of field) w e
+number_ok low high field w e = between_range low high (spelled_number field) w e
 
 weight_ok : (field : List ℕ) (w : ℤ) → weight_of field ≡ Ok w → Lies 10000 w × (w ≢ pos 0)
 unfolding weight_of
@@ -82,7 +82,7 @@ pub bid_ok : (n : ℕ) (fields : List (List ℕ)) (b : NamedBid) → bid_of n fi
 unfolding bid_of
 bid_ok n fields b e =
     let count = then_ok (holds (length fields == n + 3) code.Fields) _ b e in
-    let name = then_ok (name_of (field_at fields 1)) _ b count.2 in
+    let name = then_ok (spelled_name (field_at fields 1)) _ b count.2 in
     let weight = then_ok (weight_of (field_at fields 2)) _ b name.2 in
     let values = then_ok (each_of value_of (drop 3 fields)) _ b weight.2 in
     let some = then_ok (holds (offers_some values.0) code.Nothing) _ b values.2 in

@@ -5,17 +5,21 @@ use Rattle.std.specs.List.{AllPass}
 use Rattle.std.specs.Str.{bytes_eq}
 use Rattle.std.proofs.lemmas.Bool.{cases_Bool, false_from_ne_true}
 use Rattle.std.proofs.lemmas.Bool.Decides.{nat_tests}
-use Rattle.std.proofs.lemmas.List.{length-append, length-drop, length-map, map-append}
+use Rattle.std.proofs.lemmas.List.Sums.{sum_by_push}
+use Rattle.std.proofs.lemmas.List.{append-nil, length-append, length-drop, length-map, map-append}
 use Rattle.std.proofs.lemmas.List.Elements.{All-cons, All-filter, All-head, All-map, All-nil, All-push, All-tail, All-weaker}
 use Rattle.mix_bids.specs.Bids.{AreBids, Book, IsBid}
-use Rattle.mix_text.specs.Rows.{RowText}
-use Rattle.mix_text.specs.Spelling.{is_name, name_of}
+use Rattle.mix_bids.specs.declared.bid.Bid.{Bid}
+use Rattle.mix_text.specs.Rows.{RestText, RowText}
+use Rattle.mix_text.specs.Spelling.{is_name, spelled_name}
 use Rattle.mix_text.specs.Names.{AreNames, different, is_among}
 use Rattle.mix_num.specs.Sellers.{AreAmounts}
-use Rattle.mix_text.specs.Auctions.{IsAuction, IsBook}
-use Rattle.mix_text.specs.Reading.{◌>>=◌, NamedBid, begins, bid_row_of, bidders_of, bids_from, bids_under, end_of, goods_at, goods_form_of, goods_of, holds, is_negative, limit_of, mix_one, ReadsBids, names_after, names_of, numbers_of, past_goods, placed, read_at, row_at, unless_past}
+use Rattle.mix_text.specs.Auctions.{AuctionText, IsAuction, IsBook}
+use Rattle.mix_text.specs.Limits.{BidsMeet, MeetsLimits}
+use Rattle.mix_text.specs.Reading.{◌>>=◌, Limits, NamedBid, begins, bid_row_of, bidders_of, bids_from, bids_under, end_of, goods_at, goods_form_of, goods_row_of, header_of, holds, is_negative, limit_of, mix_one, ReadsBids, names_after, names_of, numbers_of, past_goods, placed, read_at, reading_of, row_at, unless_past}
 use Rattle.mix_text.specs.declared.faults.Code.{Code}
 use Rattle.mix_text.specs.declared.faults.Code.TheVariants as code
+use Rattle.mix_text.specs.declared.faults.TextError.{TextError}
 use Rattle.mix_text.specs.declared.faults.What.{What}
 use Rattle.mix_text.specs.declared.faults.What.TheVariants as what
 use Rattle.mix_text.proofs.Gathering.{Unlike, bids_under_snoc, bids_under_some, bytes_eq_refl, different_same, different_snoc, different_unlike, among_different, same_bytes, unlike}
@@ -32,15 +36,15 @@ within_limit number (Some w) u e = cc e
 
 -- ---- names
 
-not_alike : (a b : Bool) → (a || b) ≡ false → (a ≡ false) × (b ≡ false)
+pub not_alike : (a b : Bool) → (a || b) ≡ false → (a ≡ false) × (b ≡ false)
 not_alike false b h = (refl, h)
 not_alike true b h = absurd (true≢false h)
 
-among_snoc : (y x : List ℕ) (names : List (List ℕ)) → is_among y names ≡ false → bytes_eq y x ≡ false → is_among y (names ++ (x ∷ [])) ≡ false
+pub among_snoc : (y x : List ℕ) (names : List (List ℕ)) → is_among y names ≡ false → bytes_eq y x ≡ false → is_among y (names ++ (x ∷ [])) ≡ false
 among_snoc y x [] h e = rw e refl
 among_snoc y x (z ∷ zs) h e = let s = not_alike (bytes_eq y z) (is_among y zs) h in rw s.0 (among_snoc y x zs s.1 e)
 
-turned : (x y : List ℕ) → bytes_eq x y ≡ false → bytes_eq y x ≡ false
+pub turned : (x y : List ℕ) → bytes_eq x y ≡ false → bytes_eq y x ≡ false
 turned x y h = false_from_ne_true (bytes_eq y x) (λ e. true≢false (sym (bytes_eq_refl x) ∙ ap (bytes_eq x) (sym (same_bytes y x e)) ∙ h))
 
 unlike_snoc : (names : List (List ℕ)) (x : List ℕ) → Unlike names → is_among x names ≡ false → Unlike (names ++ (x ∷ []))
@@ -55,7 +59,7 @@ record Proper (names : List (List ℕ)) : Type 0 where
 names_after_ok : (seen fields names : List (List ℕ)) → Proper seen → names_after seen fields ≡ Ok names → Proper names × (length names ≡ length seen + length fields)
 names_after_ok seen [] names p e = let same : seen ≡ names = cc e in subst (λ (z : List (List ℕ)). Proper z × (length z ≡ length seen + 0)) same (p, omega arith)
 names_after_ok seen (field ∷ rest) names p e =
-    let a = then_ok (name_of field) (λ name. holds (not (is_among name seen)) code.Repeated >>= λ _. names_after (seen ++ (name ∷ [])) rest) names e in
+    let a = then_ok (spelled_name field) (λ name. holds (not (is_among name seen)) code.Repeated >>= λ _. names_after (seen ++ (name ∷ [])) rest) names e in
     let b = then_ok (holds (not (is_among a.0 seen)) code.Repeated) (λ _. names_after (seen ++ (a.0 ∷ [])) rest) names a.2 in
     let new = not_true_is (is_among a.0 seen) (holds_ok (not (is_among a.0 seen)) code.Repeated b.0 b.1) in
     let r = names_after_ok (seen ++ (a.0 ∷ [])) rest names (record { form = All-push (λ x. is_name x ≡ true) seen a.0 p.form (name_read field a.0 a.1).1; apart = unlike_snoc seen a.0 p.apart new }) b.2 in
@@ -71,100 +75,132 @@ are_names names p = record { form = p.form; unlike = different_same names p.apar
 at_least : (a b : ℕ) → nat_le a b ≡ true → a ≤ b
 at_least a b h = grind (arith, nat_tests)
 
-not_past : (n : ℕ) (w : What) → cond (nat_lt 5 n) (Some w) None ≡ None → n ≤ 5
-not_past n w h = elim (cases_Bool (nat_lt 5 n)) [
+not_past : (most n : ℕ) (w : What) → cond (nat_lt most n) (Some w) None ≡ None → n ≤ most
+not_past most n w h = elim (cases_Bool (nat_lt most n)) [
   | inl t ↦ absurd (let q = rw t at h in cc q)
   | inr f ↦ grind (arith, nat_tests)
 ]
 
--- the goods that are read: 1 to 5 names, no two alike
-pub record AreGoods (goods : List (List ℕ)) : Type 0 where
+-- the goods that are read: at least one name, within the limit, no two alike
+pub record AreGoods (limits : Limits) (goods : List (List ℕ)) : Type 0 where
   pub some : 1 ≤ length goods
-  pub few : length goods ≤ 5
+  pub few : length goods ≤ limits.goods
   pub names : AreNames goods
 
-pub goods_ok : (row : RowText) (names : List (List ℕ)) → goods_at mix_one row ≡ Ok names → AreGoods names
-unfolding goods_at goods_of
-goods_ok row names e =
-    let a = then_ok (placed row.number (goods_of row.fields)) (λ goods. unless_past row.number (past_goods mix_one goods) >>= λ _. Ok goods) names e in
-    let b = then_ok (unless_past row.number (past_goods mix_one a.0)) (λ _. Ok a.0) names a.2 in
+pub goods_ok : (limits : Limits) (row : RowText) (names : List (List ℕ)) → goods_at limits row ≡ Ok names → AreGoods limits names
+unfolding goods_at goods_row_of
+goods_ok limits row names e =
+    let a = then_ok (placed row.number (goods_row_of row.fields)) (λ goods. unless_past row.number (past_goods limits goods) >>= λ _. Ok goods) names e in
+    let b = then_ok (unless_past row.number (past_goods limits a.0)) (λ _. Ok a.0) names a.2 in
     let same : a.0 ≡ names = let q = b.2 in cc q in
-    let g = placed_ok row.number (goods_of row.fields) a.0 a.1 in
+    let g = placed_ok row.number (goods_row_of row.fields) a.0 a.1 in
     let f = then_ok (goods_form_of row.fields) (λ _. names_after [] (drop 1 row.fields)) a.0 g in
     let w = then_ok (holds (begins row.fields (codes "goods")) code.Place) (λ _. holds (nat_le 2 (length row.fields)) code.Fields) f.0 f.1 in
     let two = at_least 2 (length row.fields) (holds_ok (nat_le 2 (length row.fields)) code.Fields f.0 w.2) in
     let r = names_after_ok [] (drop 1 row.fields) a.0 (record { form = All-nil (λ x. is_name x ≡ true); apart = tt }) f.2 in
-    let few = not_past (length a.0) what.Goods (within_limit row.number (past_goods mix_one a.0) b.0 b.1) in
-    subst AreGoods same (record { some = omega (arith, r.1, length-drop 1 row.fields); few = few; names = are_names a.0 r.0 })
+    let few = not_past limits.goods (length a.0) what.Goods (within_limit row.number (past_goods limits a.0) b.0 b.1) in
+    subst (AreGoods limits) same (record { some = omega (arith, r.1, length-drop 1 row.fields); few = few; names = are_names a.0 r.0 })
 
 -- ---- bids
 
--- the bids so far: over n goods, of at most 64 names, at most 400 of each
-pub record AreFew (n : ℕ) (bids : List NamedBid) : Type 0 where
+-- the bids so far: over n goods, and within the limits of bidders, and of bids for each name
+pub record AreFew (limits : Limits) (n : ℕ) (bids : List NamedBid) : Type 0 where
   pub each : All (IsNamedBid n) bids
-  pub names : length (different (names_of bids)) ≤ 64
-  pub under : (m : List ℕ) → length (bids_under m bids) ≤ 400
+  pub names : length (different (names_of bids)) ≤ limits.bidders
+  pub under : (m : List ℕ) → BidsMeet limits (bids_under m bids)
 
 not_at : (a b : ℕ) → nat_le a b ≡ false → b < a
 not_at a b h = grind (arith, nat_tests)
 
+-- a bid after those of its bidder, and under the limits of both kinds
+record HasRoom (limits : Limits) (list : List Bid) (bid : Bid) : Type 0 where
+  bids : length list < limits.bids
+  negatives : is_negative bid ≡ true → count_by is_negative list < limits.negatives
+
 -- the tests of the limits, all of which failed
-tests_failed : (there many long negative : Bool) (w v u : What) → cond (not there && many) (Some w) (cond long (Some v) (cond negative (Some u) None)) ≡ None → (there ≡ false → many ≡ false) × (long ≡ false)
-tests_failed false true long negative w v u e = cc e
-tests_failed false false true negative w v u e = cc e
-tests_failed false false false negative w v u e = (λ _. refl, refl)
-tests_failed true many true negative w v u e = cc e
-tests_failed true many false negative w v u e = (λ f. absurd (true≢false f), refl)
+tests_failed : (there many long negative full : Bool) (w v u : What) → cond (not there && many) (Some w) (cond long (Some v) (cond (negative && full) (Some u) None)) ≡ None
+    → (there ≡ false → many ≡ false) × (long ≡ false) × (negative ≡ true → full ≡ false)
+tests_failed false true long negative full w v u e = cc e
+tests_failed false false true negative full w v u e = cc e
+tests_failed false false false true true w v u e = cc e
+tests_failed false false false true false w v u e = (λ _. refl, refl, λ _. refl)
+tests_failed false false false false full w v u e = (λ _. refl, refl, λ t. absurd (true≢false (sym t)))
+tests_failed true many true negative full w v u e = cc e
+tests_failed true many false true true w v u e = cc e
+tests_failed true many false true false w v u e = (λ f. absurd (true≢false f), refl, λ _. refl)
+tests_failed true many false false full w v u e = (λ f. absurd (true≢false f), refl, λ t. absurd (true≢false (sym t)))
 
 -- what it means that no limit is passed
-no_limit : (before : List NamedBid) (b : NamedBid) → limit_of mix_one before b ≡ None
-    → (is_among b.name (names_of before) ≡ false → length (different (names_of before)) < 64) × (length (bids_under b.name before) < 400)
+no_limit : (limits : Limits) (before : List NamedBid) (b : NamedBid) → limit_of limits before b ≡ None
+    → (is_among b.name (names_of before) ≡ false → length (different (names_of before)) < limits.bidders) × HasRoom limits (bids_under b.name before) b.bid
 unfolding limit_of
-no_limit before b h =
-    let t = tests_failed (is_among b.name (names_of before)) (nat_le 64 (length (different (names_of before)))) (nat_le 400 (length (bids_under b.name before)))
-    (is_negative b.bid && nat_le 12 (count_by is_negative (bids_under b.name before))) what.Bidders what.Bids what.Negatives h in
-    (λ f. not_at 64 (length (different (names_of before))) (t.0 f), not_at 400 (length (bids_under b.name before)) t.1)
+no_limit limits before b h =
+    let list = bids_under b.name before in
+    let t = tests_failed (is_among b.name (names_of before)) (nat_le limits.bidders (length (different (names_of before)))) (nat_le limits.bids (length list))
+    (is_negative b.bid) (nat_le limits.negatives (count_by is_negative list)) what.Bidders what.Bids what.Negatives h in (
+      λ f. not_at limits.bidders (length (different (names_of before))) (t.0 f),
+      record { bids = not_at limits.bids (length list) t.1; negatives = λ n. not_at limits.negatives (count_by is_negative list) (t.2 n) },
+    )
 
--- the bids of a name, one more of them at the end
-under_more : (before : List NamedBid) (b : NamedBid) (m : List ℕ) → length (bids_under b.name before) < 400 → length (bids_under m before) ≤ 400 → length (bids_under m (before ++ (b ∷ []))) ≤ 400
-under_more before b m few h = rw (bids_under_snoc m before b, length-append (bids_under m before) (cond (bytes_eq m b.name) (b.bid ∷ []) [])) (elim (cases_Bool (bytes_eq m b.name)) [
-  | inl t ↦ (let same : length (bids_under m before) ≡ length (bids_under b.name before) = ap (λ (x : List ℕ). length (bids_under x before)) (same_bytes m b.name t) in rw t (omega arith))
-  | inr f ↦ rw f (omega arith)
+-- a list with room, one more bid at its end
+bid_more : (limits : Limits) (list : List Bid) (bid : Bid) → HasRoom limits list bid → BidsMeet limits list → BidsMeet limits (list ++ (bid ∷ []))
+bid_more limits list bid room m =
+    let room_left = room.bids in
+    let few = m.negatives in
+    let count = sum_by_push (λ b. cond (is_negative b) 1 0) list bid in
+    record {
+      bids = rw (length-append list (bid ∷ [])) (omega arith);
+      negatives = elim (cases_Bool (is_negative bid)) [
+        | inl t ↦ (let below = room.negatives t in rw (count, t) (omega arith))
+        | inr f ↦ rw (count, f) (omega arith)
+      ];
+    }
+
+-- the bids of a name, where one more bid has come
+under_more : (limits : Limits) (before : List NamedBid) (b : NamedBid) (m : List ℕ) → HasRoom limits (bids_under b.name before) b.bid → BidsMeet limits (bids_under m before) → BidsMeet limits (bids_under m (before ++ (b ∷ [])))
+under_more limits before b m room h = rw (bids_under_snoc m before b) (elim (cases_Bool (bytes_eq m b.name)) [
+  | inl t ↦ (
+      let same = same_bytes m b.name t in
+      rw t (bid_more limits (bids_under m before) b.bid (subst (λ (x : List ℕ). HasRoom limits (bids_under x before) b.bid) (sym same) room) h))
+  | inr f ↦ rw (f, append-nil (bids_under m before)) h
 ])
 
-names_more : (before : List NamedBid) (b : NamedBid) → (is_among b.name (names_of before) ≡ false → length (different (names_of before)) < 64) → length (different (names_of before)) ≤ 64
-    → length (different (names_of (before ++ (b ∷ [])))) ≤ 64
-names_more before b new h = rw (map-append (λ (a : NamedBid). a.name) before (b ∷ []), different_snoc (names_of before) b.name) (elim (cases_Bool (is_among b.name (names_of before))) [
+names_more : (limits : Limits) (before : List NamedBid) (b : NamedBid) → (is_among b.name (names_of before) ≡ false → length (different (names_of before)) < limits.bidders) → length (different (names_of before)) ≤ limits.bidders
+    → length (different (names_of (before ++ (b ∷ [])))) ≤ limits.bidders
+names_more limits before b new h = rw (map-append (λ (a : NamedBid). a.name) before (b ∷ []), different_snoc (names_of before) b.name) (elim (cases_Bool (is_among b.name (names_of before))) [
   | inl t ↦ rw t h
   | inr f ↦ (let l = new f in rw (f, length-append (different (names_of before)) (b.name ∷ [])) (omega arith))
 ])
 
-few_more : (n : ℕ) (before : List NamedBid) (b : NamedBid) → IsNamedBid n b → limit_of mix_one before b ≡ None → AreFew n before → AreFew n (before ++ (b ∷ []))
-few_more n before b is none a =
-    let l = no_limit before b none in
+few_more : (limits : Limits) (n : ℕ) (before : List NamedBid) (b : NamedBid) → IsNamedBid n b → limit_of limits before b ≡ None → AreFew limits n before → AreFew limits n (before ++ (b ∷ []))
+few_more limits n before b is none a =
+    let l = no_limit limits before b none in
     record {
       each = All-push (IsNamedBid n) before b a.each is;
-      names = names_more before b l.0 a.names;
-      under = λ m. under_more before b m l.1 (a.under m);
+      names = names_more limits before b l.0 a.names;
+      under = λ m. under_more limits before b m l.1 (a.under m);
     }
 
-bids_ok : (n next : ℕ) (before : List NamedBid) (rows : List RowText) (read : List NamedBid × List RowText) → bids_from mix_one n next before rows ≡ Ok read → AreFew n before → AreFew n read.0
+bids_ok : (limits : Limits) (n next : ℕ) (before : List NamedBid) (rows : List RowText) (read : List NamedBid × List RowText) → bids_from limits n next before rows ≡ Ok read → AreFew limits n before → AreFew limits n read.0
 unfolding bids_from
-bids_ok n next before [] read e a = cc e
-bids_ok n next before (row ∷ rest) read e a = elim (cases_Bool (begins row.fields (codes "end"))) [
+bids_ok limits n next before [] read e a = cc e
+bids_ok limits n next before (row ∷ rest) read e a = elim (cases_Bool (begins row.fields (codes "end"))) [
   | inl t ↦ (
       let q = rw t at e in
       let r = then_ok (placed row.number (end_of row.fields)) (λ _. Ok (before, rest)) read q in
       let same : (before, rest) ≡ read = let z = r.2 in cc z in
-      subst (λ (z : List NamedBid × List RowText). AreFew n z.0) same a)
+      subst (λ (z : List NamedBid × List RowText). AreFew limits n z.0) same a)
   | inr f ↦ (
       let q = rw f at e in
-      let b = then_ok (placed row.number (bid_row_of n row.fields)) (λ b. unless_past row.number (limit_of mix_one before b) >>= λ _. bids_from mix_one n next (before ++ (b ∷ [])) rest) read q in
-      let l = then_ok (unless_past row.number (limit_of mix_one before b.0)) (λ _. bids_from mix_one n next (before ++ (b.0 ∷ [])) rest) read b.2 in
-      let none = within_limit row.number (limit_of mix_one before b.0) l.0 l.1 in
+      let b = then_ok (placed row.number (bid_row_of n row.fields)) (λ b. unless_past row.number (limit_of limits before b) >>= λ _. bids_from limits n next (before ++ (b ∷ [])) rest) read q in
+      let l = then_ok (unless_past row.number (limit_of limits before b.0)) (λ _. bids_from limits n next (before ++ (b.0 ∷ [])) rest) read b.2 in
+      let none = within_limit row.number (limit_of limits before b.0) l.0 l.1 in
       let is = bid_row_ok n row.fields b.0 (placed_ok row.number (bid_row_of n row.fields) b.0 b.1) in
-      bids_ok n next (before ++ (b.0 ∷ [])) rest read l.2 (few_more n before b.0 is none a))
+      bids_ok limits n next (before ++ (b.0 ∷ [])) rest read l.2 (few_more limits n before b.0 is none a))
 ]
+
+none_yet : (limits : Limits) (n : ℕ) → AreFew limits n []
+none_yet limits n = record { each = All-nil (IsNamedBid n); names = omega arith; under = λ m. record { bids = omega arith; negatives = omega arith } }
 
 -- ---- the bidders of these bids
 
@@ -194,24 +230,31 @@ bids_of_name : (n : ℕ) (m : List ℕ) (bids : List NamedBid) → All (IsNamedB
 bids_of_name n m bids h =
     All-map (IsBid n) (λ (b : NamedBid). b.bid) (filter (λ b. bytes_eq m b.name) bids) (All-weaker (IsNamedBid n) (λ b. IsBid n b.bid) (λ b i. i.bid) _ (All-filter (λ b. bytes_eq m b.name) (IsNamedBid n) bids h))
 
-none_yet : (n : ℕ) → AreFew n []
-none_yet n = record { each = All-nil (IsNamedBid n); names = omega arith; under = λ m. omega arith }
-
 -- a row of amounts that is read
 amounts_at : (rows : List RowText) (k : ℕ) (word : List ℕ) (n : ℕ) (xs : List ℤ) → read_at rows k (numbers_of word n (pos 0) (pos 1000000)) ≡ Ok xs → AreAmounts n xs
 amounts_at rows k word n xs e =
     let r = then_ok (row_at rows k) (λ row. placed row.number (numbers_of word n (pos 0) (pos 1000000) row.fields)) xs e in
     numbers_ok (pos 0) (pos 1000000) word n r.0.fields xs (placed_ok r.0.number (numbers_of word n (pos 0) (pos 1000000) r.0.fields) xs r.2)
 
+-- the bidders of these bids: as many as their different names
+bidders_length : (n : ℕ) (bids : List NamedBid) → length (bidders_of n bids) ≡ length (different (names_of bids))
+bidders_length n bids = length-map (different (names_of bids)) (λ name. (name, record { goods = n; bids = bids_under name bids }))
+
+-- what holds of the bids of each name that is there holds of each bidder's list
+each_list : (n : ℕ) (bids : List NamedBid) (P : Book → Type 0) → ((m : List ℕ) → is_among m (names_of bids) ≡ true → P (record { goods = n; bids = bids_under m bids })) → All (λ (bidder : List ℕ × Book). P bidder.1) (bidders_of n bids)
+each_list n bids P h =
+    All-map (λ (bidder : List ℕ × Book). P bidder.1) (λ (name : List ℕ). (name, record { goods = n; bids = bids_under name bids })) (different (names_of bids))
+    (each_among (λ name. P (record { goods = n; bids = bids_under name bids })) (different (names_of bids)) (names_of bids) (λ m a. sym (among_different m (names_of bids)) ∙ a) h)
+
 -- the bidders of few bids make an auction with goods and amounts
-pub made : (goods : List (List ℕ)) (supply reserve : List ℤ) (bids : List NamedBid) → AreGoods goods → AreAmounts (length goods) supply → AreAmounts (length goods) reserve → AreFew (length goods) bids
+pub made : (goods : List (List ℕ)) (supply reserve : List ℤ) (bids : List NamedBid) → AreGoods mix_one goods → AreAmounts (length goods) supply → AreAmounts (length goods) reserve → AreFew mix_one (length goods) bids
     → IsAuction (record { goods = goods; supply = supply; reserve = reserve; bidders = bidders_of (length goods) bids })
 made goods supply reserve bids g s r few =
     let n = length goods in
     let names = names_same n bids in
     record {
       some_goods = g.some;
-      few_goods = let f = g.few in omega arith;
+      few_goods = let f : length goods ≤ 5 = g.few in omega arith;
       goods = g.names;
       supply = s;
       reserve = r;
@@ -219,10 +262,8 @@ made goods supply reserve bids g s r few =
         form = passes_different (names_of bids) (All-map (λ x. is_name x ≡ true) (λ (b : NamedBid). b.name) bids (All-weaker (IsNamedBid n) (λ b. is_name b.name ≡ true) (λ b i. i.name) bids few.each));
         unlike = different_same (different (names_of bids)) (different_unlike (names_of bids));
       });
-      few_bidders = let h = few.names in let l : length (bidders_of n bids) ≡ length (different (names_of bids)) = length-map (different (names_of bids)) (λ name. (name, record { goods = n; bids = bids_under name bids })) in omega arith;
-      books = All-map (λ (bidder : List ℕ × Book). IsBook n bidder.1) (λ (name : List ℕ). (name, record { goods = n; bids = bids_under name bids })) (different (names_of bids))
-          (each_among (λ name. IsBook n (record { goods = n; bids = bids_under name bids })) (different (names_of bids)) (names_of bids) (λ m a. sym (among_different m (names_of bids)) ∙ a)
-          (λ m a. record { goods = refl; some = bids_under_some m bids a; few = few.under m; bids = bids_of_name n m bids few.each }));
+      few_bidders = let h : length (different (names_of bids)) ≤ 64 = few.names in let l = bidders_length n bids in omega arith;
+      books = each_list n bids (IsBook n) (λ m a. record { goods = refl; some = bids_under_some m bids a; few = (few.under m).bids; bids = bids_of_name n m bids few.each });
     }
 
 -- an auction that is read is one
@@ -234,8 +275,37 @@ pub auction_ok : (rows : List RowText) (n : ℕ) (goods : List (List ℕ)) (supp
     → IsAuction (record { goods = goods; supply = supply; reserve = reserve; bidders = bidders })
 auction_ok rows n goods supply reserve bidders place count b c d e =
     let r = then_ok (row_at rows 1) (goods_at mix_one) goods b in
-    let few = bids_ok n (length rows + 1) [] (drop 4 rows) (e.bids, drop place rows) e.read (none_yet n) in
+    let few = bids_ok mix_one n (length rows + 1) [] (drop 4 rows) (e.bids, drop place rows) e.read (none_yet mix_one n) in
     let P : ℕ → Type 0 = λ m. IsAuction (record { goods = goods; supply = supply; reserve = reserve; bidders = bidders_of m e.bids }) in
-    let at_length = made goods supply reserve e.bids (goods_ok r.0 goods r.2) (subst (λ (m : ℕ). AreAmounts m supply) count (amounts_at rows 2 (codes "supply") n supply c))
-    (subst (λ (m : ℕ). AreAmounts m reserve) count (amounts_at rows 3 (codes "reserve") n reserve d)) (subst (λ (m : ℕ). AreFew m e.bids) count few) in
+    let at_length = made goods supply reserve e.bids (goods_ok mix_one r.0 goods r.2) (subst (λ (m : ℕ). AreAmounts m supply) count (amounts_at rows 2 (codes "supply") n supply c))
+    (subst (λ (m : ℕ). AreAmounts m reserve) count (amounts_at rows 3 (codes "reserve") n reserve d)) (subst (λ (m : ℕ). AreFew mix_one m e.bids) count few) in
     subst (λ (z : List (List ℕ × Book)). IsAuction (record { goods = goods; supply = supply; reserve = reserve; bidders = z })) (sym e.gathered) (subst P (sym count) at_length)
+
+-- ---- limits
+
+-- few bids: their bidders keep to the limits
+bids_meet : (limits : Limits) (goods : List (List ℕ)) (supply reserve : List ℤ) (n : ℕ) (bids : List NamedBid) → AreGoods limits goods → AreFew limits n bids
+    → MeetsLimits limits (record { goods = goods; supply = supply; reserve = reserve; bidders = bidders_of n bids })
+bids_meet limits goods supply reserve n bids g few = record {
+  goods = g.few;
+  bidders = let h = few.names in let l = bidders_length n bids in omega arith;
+  lists = each_list n bids (λ book. BidsMeet limits book.bids) (λ m a. few.under m);
+}
+
+meet_when_read : (limits : Limits) (a : AuctionText) (rest : RestText) (read : AuctionText × RestText) → ◌≡◌ {A = Result (AuctionText × RestText) TextError} (Ok (a, rest)) (Ok read) → MeetsLimits limits a → MeetsLimits limits read.0
+meet_when_read limits a rest read e h = let same : a ≡ read.0 = cc e in subst (MeetsLimits limits) same h
+
+-- the auction that is read keeps to the limits under which it is read
+pub meets_limits : (limits : Limits) (rows : List RowText) (read : AuctionText × RestText) → reading_of limits rows ≡ Ok read → MeetsLimits limits read.0
+unfolding reading_of
+meets_limits limits rows read e =
+    let next = length rows + 1 in
+    let header = then_ok (read_at rows 0 header_of) _ read e in
+    let goods = then_ok (row_at rows 1 >>= goods_at limits) _ read header.2 in
+    let n = length goods.0 in
+    let supply = then_ok (read_at rows 2 (numbers_of (codes "supply") n (pos 0) (pos 1000000))) _ read goods.2 in
+    let reserve = then_ok (read_at rows 3 (numbers_of (codes "reserve") n (pos 0) (pos 1000000))) _ read supply.2 in
+    let bids = then_ok (bids_from limits n next [] (drop 4 rows)) _ read reserve.2 in
+    let row = then_ok (row_at rows 1) (goods_at limits) goods.0 goods.1 in
+    let few = bids_ok limits n next [] (drop 4 rows) bids.0 bids.1 (none_yet limits n) in
+    meet_when_read limits _ _ read bids.2 (bids_meet limits goods.0 supply.0 reserve.0 n bids.0.0 (goods_ok limits row.0 goods.0 row.2) few)

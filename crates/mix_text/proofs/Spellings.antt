@@ -8,7 +8,7 @@ use Rattle.std.proofs.lemmas.Bool.Decides.{nat_tests}
 use Rattle.std.proofs.lemmas.Int.{ints}
 use Rattle.std.proofs.lemmas.Str.{IsUtf8-from_ascii}
 use Rattle.mix_text.specs.Pages.{is_printable}
-use Rattle.mix_text.specs.Spelling.{is_name, is_name_byte, is_plain, name_of, negative_of, plain_of, value_after, within}
+use Rattle.mix_text.specs.Spelling.{is_name, is_name_byte, is_plain, spelled_name, negative_of, plain_of, value_after, between}
 use Rattle.mix_text.specs.declared.faults.Code.TheVariants as code
 
 pub plain_some : (digits : List ℕ) → is_plain digits ≡ true → plain_of digits ≡ Some (pos (value_after 0 digits))
@@ -33,38 +33,38 @@ negative_zero digits none =
     let e : (value_after 0 digits == 0) ≡ true = grind (arith, nat_tests) in
     elim (cases_Bool (is_plain digits)) [ inl plain ↦ rw (plain, e) refl | inr other ↦ rw other refl ]
 
-pub within_none : (low high : ℤ) → within low high None ≡ Err code.Number
-unfolding within
-within_none low high = refl
+pub between_none : (low high : ℤ) → between low high None ≡ Err code.Number
+unfolding between
+between_none low high = refl
 
-pub within_same : (a b c d x y : ℤ) → a ≡ b → c ≡ d → x ≡ y → within a c (Some x) ≡ within b d (Some y)
-within_same a b c d x y p q r = rw (p, q, r) refl
+pub between_same : (a b c d x y : ℤ) → a ≡ b → c ≡ d → x ≡ y → between a c (Some x) ≡ between b d (Some y)
+between_same a b c d x y p q r = rw (p, q, r) refl
 
-within-tests : (low high v w : ℤ) (a b : Bool) → le_z low v ≡ a → le_z v high ≡ b → (if a && b then Ok v else Err code.Range) ≡ Ok w → (low ≤ℤ w) × (w ≤ℤ high)
-within-tests low high v w true true p q e = let same : v ≡ w = cc e in rw (← same) (grind (arith, ints), grind (arith, ints))
-within-tests low high v w true false p q e = cc e
-within-tests low high v w false b p q e = cc e
+between-tests : (low high v w : ℤ) (a b : Bool) → le_z low v ≡ a → le_z v high ≡ b → (if a && b then Ok v else Err code.Range) ≡ Ok w → (low ≤ℤ w) × (w ≤ℤ high)
+between-tests low high v w true true p q e = let same : v ≡ w = cc e in rw (← same) (grind (arith, ints), grind (arith, ints))
+between-tests low high v w true false p q e = cc e
+between-tests low high v w false b p q e = cc e
 
 -- a number that was read lies in its range
-pub within_range : (low high : ℤ) (o : Option ℤ) (w : ℤ) → within low high o ≡ Ok w → (low ≤ℤ w) × (w ≤ℤ high)
-unfolding within
-within_range low high None w e = cc e
-within_range low high (Some v) w e = within-tests low high v w (le_z low v) (le_z v high) refl refl e
+pub between_range : (low high : ℤ) (o : Option ℤ) (w : ℤ) → between low high o ≡ Ok w → (low ≤ℤ w) × (w ≤ℤ high)
+unfolding between
+between_range low high None w e = cc e
+between_range low high (Some v) w e = between-tests low high v w (le_z low v) (le_z v high) refl refl e
 
 -- and is the number that the field spells
-within-value-tests : (v w : ℤ) (both : Bool) → (if both then Ok v else Err code.Range) ≡ Ok w → v ≡ w
-within-value-tests v w true e = cc e
-within-value-tests v w false e = cc e
+between-value-tests : (v w : ℤ) (both : Bool) → (if both then Ok v else Err code.Range) ≡ Ok w → v ≡ w
+between-value-tests v w true e = cc e
+between-value-tests v w false e = cc e
 
-pub within_value : (low high : ℤ) (o : Option ℤ) (w : ℤ) → within low high o ≡ Ok w → o ≡ Some w
-unfolding within
-within_value low high None w e = cc e
-within_value low high (Some v) w e = let same = within-value-tests v w (le_z low v && le_z v high) e in rw same refl
+pub between_value : (low high : ℤ) (o : Option ℤ) (w : ℤ) → between low high o ≡ Ok w → o ≡ Some w
+unfolding between
+between_value low high None w e = cc e
+between_value low high (Some v) w e = let same = between-value-tests v w (le_z low v && le_z v high) e in rw same refl
 
 -- a number in its range is read
-pub within_ok : (low high w : ℤ) → low ≤ℤ w → w ≤ℤ high → within low high (Some w) ≡ Ok w
-unfolding within
-within_ok low high w p q =
+pub between_ok : (low high w : ℤ) → low ≤ℤ w → w ≤ℤ high → between low high (Some w) ≡ Ok w
+unfolding between
+between_ok low high w p q =
     let a : le_z low w ≡ true = grind (arith, ints) in
     let b : le_z w high ≡ true = grind (arith, ints) in
     rw (a, b) refl
@@ -74,13 +74,13 @@ name-tests field name true p e = let same : field ≡ name = cc e in rw (← sam
 name-tests field name false p e = cc e
 
 -- a name that was read is the field, and has the form of a name
-pub name_read : (field name : List ℕ) → name_of field ≡ Ok name → (name ≡ field) × (is_name name ≡ true)
-unfolding name_of
+pub name_read : (field name : List ℕ) → spelled_name field ≡ Ok name → (name ≡ field) × (is_name name ≡ true)
+unfolding spelled_name
 name_read field name e = name-tests field name (is_name field) refl e
 
 -- a name is read as itself
-pub name_spelled : (field : List ℕ) → is_name field ≡ true → name_of field ≡ Ok field
-unfolding name_of
+pub name_spelled : (field : List ℕ) → is_name field ≡ true → spelled_name field ≡ Ok field
+unfolding spelled_name
 name_spelled field h = rw h refl
 
 -- a name may be printed as a field

@@ -6,3 +6,4 @@ pub mod Names
 pub mod Auctions
 pub mod AuctionTexts
 pub mod Reading
+pub mod Limits

@@ -6,7 +6,7 @@ use Rattle.mix_bids.specs.Bids.{Book}
 use Rattle.mix_bids.specs.Offers.{offers_some}
 use Rattle.mix_bids.specs.declared.bid.Bid.{Bid}
 use Rattle.mix_text.specs.Rows.{RestText, RowText}
-use Rattle.mix_text.specs.Spelling.{name_of, number_of, within}
+use Rattle.mix_text.specs.Spelling.{spelled_name, spelled_number, between}
 use Rattle.mix_text.specs.Names.{different, is_among}
 use Rattle.mix_text.specs.Auctions.{AuctionText}
 use Rattle.mix_text.specs.declared.faults.Code.{Code}
@@ -45,7 +45,7 @@ each_of read (field ∷ rest) = read field >>= λ x. each_of read rest >>= λ xs
 
 -- a number from low to high
 abbrev pub number_in : ℤ → ℤ → List ℕ → Result ℤ Code
-number_in low high field = within low high (number_of field)
+number_in low high field = between low high (spelled_number field)
 
 -- the first row: `mix` and `1`, and nothing else
 unfoldable pub header_of : List (List ℕ) → Result (Unit {0}) Code
@@ -54,14 +54,14 @@ header_of fields = holds (begins fields (codes "mix") && bytes_eq (field_at fiel
 -- names, each unlike those seen before it
 abbrev pub names_after : List (List ℕ) → List (List ℕ) → Result (List (List ℕ)) Code
 names_after seen [] = Ok seen
-names_after seen (field ∷ rest) = name_of field >>= λ name. holds (not (is_among name seen)) code.Repeated >>= λ _. names_after (seen ++ (name ∷ [])) rest
+names_after seen (field ∷ rest) = spelled_name field >>= λ name. holds (not (is_among name seen)) code.Repeated >>= λ _. names_after (seen ++ (name ∷ [])) rest
 
 -- the row of the goods: `goods`, and at least one name, all different
 abbrev pub goods_form_of : List (List ℕ) → Result (Unit {0}) Code
 goods_form_of fields = holds (begins fields (codes "goods")) code.Place >>= λ _. holds (nat_le 2 (length fields)) code.Fields
 
-unfoldable pub goods_of : List (List ℕ) → Result (List (List ℕ)) Code
-goods_of fields = goods_form_of fields >>= λ _. names_after [] (drop 1 fields)
+unfoldable pub goods_row_of : List (List ℕ) → Result (List (List ℕ)) Code
+goods_row_of fields = goods_form_of fields >>= λ _. names_after [] (drop 1 fields)
 
 -- a row of a word and a number from low to high for each of n goods
 unfoldable pub numbers_of : List ℕ → ℕ → ℤ → ℤ → List (List ℕ) → Result (List ℤ) Code
@@ -85,7 +85,7 @@ pub record NamedBid : Type 0 where
 unfoldable pub bid_of : ℕ → List (List ℕ) → Result NamedBid Code
 bid_of n fields =
     holds (length fields == n + 3) code.Fields >>= λ _.
-    name_of (field_at fields 1) >>= λ name.
+    spelled_name (field_at fields 1) >>= λ name.
     weight_of (field_at fields 2) >>= λ weight.
     each_of value_of (drop 3 fields) >>= λ values.
     holds (offers_some values) code.Nothing >>= λ _.
@@ -182,7 +182,7 @@ past_goods limits goods = if nat_lt limits.goods (length goods) then Some what.G
 
 -- the goods of their row, within the limit
 unfoldable pub goods_at : Limits → RowText → Result (List (List ℕ)) TextError
-goods_at limits row = placed row.number (goods_of row.fields) >>= λ goods. unless_past row.number (past_goods limits goods) >>= λ _. Ok goods
+goods_at limits row = placed row.number (goods_row_of row.fields) >>= λ goods. unless_past row.number (past_goods limits goods) >>= λ _. Ok goods
 
 -- the auction of a text's rows and the rows after it, or what is wrong first
 unfoldable pub reading_of : Limits → List RowText → Result (AuctionText × RestText) TextError
@@ -208,8 +208,8 @@ abbrev pub price_in : ℕ → ℕ → List RowText → Result (List ℤ) Fault
 price_in n next [] = numbered_as next (Err code.End)
 price_in n next (row ∷ rest) = numbered_as row.number (prices_of n row.fields) >>= λ prices. nothing_after rest >>= λ _. Ok prices
 
-abbrev pub price_of : ℕ → RestText → Result (List ℤ) Fault
-price_of n rest = price_in n rest.next rest.rows
+abbrev pub prices_after : ℕ → RestText → Result (List ℤ) Fault
+prices_after n rest = price_in n rest.next rest.rows
 
 -- an error that is what the text has wrong first, or want of memory
 abbrev pub IsFromText : {X : Type 0} → Result X TextError → TextError → Type 0

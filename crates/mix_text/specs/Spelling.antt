@@ -25,13 +25,13 @@ unfoldable pub negative_of : List ℕ → Option ℤ
 negative_of digits = if is_plain digits && not (value_after 0 digits == 0) then Some (neg_ℤ (pos (value_after 0 digits))) else None
 
 -- the number that a field spells, if it spells one
-abbrev pub number_of : List ℕ → Option ℤ
-number_of field = if slice_index field 0 == 45 then negative_of (drop 1 field) else plain_of field
+abbrev pub spelled_number : List ℕ → Option ℤ
+spelled_number field = if slice_index field 0 == 45 then negative_of (drop 1 field) else plain_of field
 
 -- a number that lies from low to high
-unfoldable pub within : ℤ → ℤ → Option ℤ → Result ℤ Code
-within low high None = Err code.Number
-within low high (Some v) = if le_z low v && le_z v high then Ok v else Err code.Range
+unfoldable pub between : ℤ → ℤ → Option ℤ → Result ℤ Code
+between low high None = Err code.Number
+between low high (Some v) = if le_z low v && le_z v high then Ok v else Err code.Range
 
 -- a letter, a digit, '_', '-' or '.': what may stand in a name after its first byte
 abbrev pub is_name_byte : ℕ → Bool
@@ -42,8 +42,8 @@ abbrev pub is_name : List ℕ → Bool
 is_name field = nat_lt 0 (length field) && nat_lt (length field) 33 && is_ascii_alphabetic (slice_index field 0) && list_all is_name_byte field
 
 -- the name that a field spells
-unfoldable pub name_of : List ℕ → Result (List ℕ) Code
-name_of field = if is_name field then Ok field else Err code.Name
+unfoldable pub spelled_name : List ℕ → Result (List ℕ) Code
+spelled_name field = if is_name field then Ok field else Err code.Name
 
 -- a name as its bytes
 abbrev pub name_text : Result ArrayString Code → Result (List ℕ) Code

@@ -24,5 +24,5 @@ pub use reading::read_auction;
 pub use rest::{Rest, no_rest};
 pub use row::Row;
 pub use row_list::{RowList, rows};
-pub use row_reading::read_bid;
+pub use row_reading::{read_bid, read_numbers, row_begins, unless};
 pub use spelling::{Name, read_name, read_number};

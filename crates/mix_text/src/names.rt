@@ -1,6 +1,6 @@
 // The names of the goods.
-ghost use Rattle.std.specs.Prelude.{◌≡◌, ◌<◌, ◌++◌, ◌∷◌, [], false, length, OnErr, OnOk, slice_index_or};
-ghost use Rattle.mix_text.specs.Names.{is_among};
+ghost use Rattle.std.specs.Prelude.{◌≡◌, ◌<◌, ◌++◌, ◌∷◌, [], false, length, IfSome, OnErr, OnOk, slice_index_or};
+ghost use Rattle.mix_text.specs.Names.{is_among, place_among};
 ghost use Rattle.mix_text.specs.Rows.{is_empty};
 
 use crate::spelling::Name;
@@ -38,6 +38,14 @@ impl Names {
         ensures { result ≡ is_among name.now.bytes self.now }
     {
         self.names.contains(name)
+    }
+
+    /// The place of a name, from 0; None where it isn't among them.
+    pub fn find(&self, name: &Name) -> Option<usize>
+        ensures place { result ≡ place_among name.now.bytes self.now }
+        ensures within { IfSome result (λ k. k < length self.now) }
+    {
+        self.names.get_index_of(name)
     }
 
     /// Adds a name at the end. Where memory is wanting, the names stay as they were.

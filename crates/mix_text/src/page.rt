@@ -1,9 +1,11 @@
 // A text that is written row by row.
-ghost use Rattle.std.specs.Prelude.{◌≡◌, ◌<◌, ◌++◌, ◌∷◌, [], true, false, length, IfOk, OnOk};
+ghost use Rattle.std.specs.Prelude.{◌≡◌, ◌<◌, ◌++◌, ◌∷◌, [], true, false, length, map, IfOk, OnOk};
 ghost use Rattle.std.specs.Fmt.{signed_decimal};
 ghost use Rattle.csv.specs.Writing.{default_writer, fields_written, has_written, with_flexible, writer_pending, writer_setup, writer_under};
 ghost use Rattle.mix_text.specs.Pages.{PageText, is_printable, line_of};
+ghost use Rattle.mix_text.specs.Spelling.{is_name};
 
+use crate::spelling::Name;
 use csv::{ByteRecord, Writer, WriterBuilder};
 use itoa::Buffer;
 use mix_num::Memory;
@@ -80,6 +82,25 @@ impl Page {
     {
         let mut buffer = Buffer::new();
         self.text(buffer.format(value).as_bytes())
+    }
+
+    /// Adds the spellings of numbers to the open row.
+    pub fn numbers(&mut self, numbers: &[i64]) -> Result<(), Memory>
+        ensures { OnOk result (self.new ≡ record self.old { fields = self.old.fields ++ map signed_decimal numbers.now }) }
+    {
+        for number in numbers {
+            self.number(*number)?;
+        }
+        Ok(())
+    }
+
+    /// Adds a name to the open row.
+    #[tactic(auto, using(crate::proofs::Spellings::name_printable))]
+    pub fn name(&mut self, name: &Name) -> Result<(), Memory>
+        requires { is_name name.now.bytes ≡ true }
+        ensures { OnOk result (self.new ≡ record self.old { fields = self.old.fields ++ name.now.bytes ∷ [] }) }
+    {
+        self.text(name.as_str().as_bytes())
     }
 
     /// Ends the open row, which has a field, and opens an empty one.

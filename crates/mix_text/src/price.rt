@@ -1,6 +1,6 @@
 // The one row of prices that may stand after an auction.
 ghost use Rattle.std.specs.Prelude.{◌≡◌, ◌≤◌, Ok, Err, IfOk, IfErr};
-ghost use Rattle.mix_text.specs.Reading.{numbered_as, price_of, prices_of};
+ghost use Rattle.mix_text.specs.Reading.{numbered_as, prices_after, prices_of};
 
 use crate::faults::{Code, Fault};
 use crate::rest::Rest;
@@ -29,8 +29,8 @@ fn read_price_row(row: &Row, goods: usize) -> Result<Prices, Fault>
 /// The fault is the first in order: that of the first row; `After` at a second row; `End` where no row is left.
 pub fn read_price(rest: &Rest, goods: usize) -> Result<Prices, Fault>
     requires { (1 ≤ goods) × (goods ≤ 8) }
-    ensures read { IfOk result (λ prices. price_of goods rest.now ≡ Ok prices.items) }
-    ensures wrong { IfErr result (λ fault. price_of goods rest.now ≡ Err fault) }
+    ensures read { IfOk result (λ prices. prices_after goods rest.now ≡ Ok prices.items) }
+    ensures wrong { IfErr result (λ fault. prices_after goods rest.now ≡ Err fault) }
 {
     match rest.rows() {
         [] => Err(Fault {

@@ -4,6 +4,7 @@ ghost use Rattle.mix_bids.specs.Bids.{IsBid};
 ghost use Rattle.mix_bids.specs.declared.bid.Bid.{Bid};
 ghost use Rattle.mix_text.specs.Bidders.{place_of};
 ghost use Rattle.mix_text.specs.AuctionTexts.{auction_text};
+ghost use Rattle.mix_text.specs.Limits.{MeetsLimits};
 ghost use Rattle.mix_text.specs.Names.{is_among};
 ghost use Rattle.mix_text.specs.Rows.{RestText, RowText, rows_of};
 ghost use Rattle.mix_text.specs.Reading.{IsFromText, ReadsBids, header_of, read_at, bidders_of, bids_from, field_at, goods_at, goods_form_of, is_negative, limit_of, list_limit_of, mix_one, NamedBid, names_after, numbers_of, placed, reading_of, row_at, unless_past};
@@ -95,7 +96,7 @@ fn goods_form(row: &Row) -> Result<(), Code>
 }
 
 // Reads the row of the goods.
-#[tactic(auto, unfolding(crate::specs::Reading::goods_at, crate::specs::Reading::goods_of))]
+#[tactic(auto, unfolding(crate::specs::Reading::goods_at, crate::specs::Reading::goods_row_of))]
 fn read_goods(alloc: Global, row: &Row) -> Result<Names, TextError>
     ensures read { IfOk result (λ names. goods_at mix_one row.now ≡ Ok names) }
     ensures wrong { IfErr result (λ e. IsFromText (goods_at mix_one row.now) e) }
@@ -289,10 +290,12 @@ fn read_rows(alloc: Global, rows: &[Row]) -> Result<ReadRows, TextError>
 ///
 /// The rows are looked at in order, and the first that has a fault or passes a limit decides, a fault before a limit
 /// within a row. Where the rows end before `end`, that is the fault `End` of the row that would come next.
-/// `Memory` may come in place of any answer.
+/// The auction that is read keeps to the limits of its format: 5 goods, 64 bidders, and of each bidder 400 bids and 12
+/// of negative weight. `Memory` may come in place of any answer.
 pub fn read_auction(alloc: Global, text: &[u8]) -> Result<(Auction, Rest), TextError>
     requires { length text.now ≤ 4194304 }
     ensures read { IfOk result (λ p. reading_of mix_one (rows_of text.now) ≡ Ok (auction_text p.0, p.1)) }
+    ensures limits { IfOk result (λ p. MeetsLimits mix_one (auction_text p.0)) }
     ensures wrong { IfErr result (λ e. IsFromText (reading_of mix_one (rows_of text.now)) e) }
 {
     let list = match rows(alloc, text) {

@@ -16,15 +16,15 @@ fn field_or_empty(row: &Row, k: usize) -> &[u8]
     if k < row.len() { row.field(k) } else { b"" }
 }
 
-// Whether the first field is this word.
-pub(crate) fn row_begins(row: &Row, word: &[u8]) -> bool
+/// Whether the first field is this word.
+pub fn row_begins(row: &Row, word: &[u8]) -> bool
     ensures { result ≡ begins row.now.fields word.now }
 {
     field_or_empty(row, 0) == word
 }
 
-// Nothing, where a test holds; else a code.
-pub(crate) fn unless(test: bool, code: Code) -> Result<(), Code>
+/// Nothing, where a test holds; else a code.
+pub fn unless(test: bool, code: Code) -> Result<(), Code>
     ensures { result ≡ holds test code }
 {
     if test { Ok(()) } else { Err(code) }
@@ -80,9 +80,13 @@ fn read_each_number(row: &Row, low: i64, high: i64) -> Result<Prices, Code>
     Ok(numbers)
 }
 
-/// Reads a row of a word and a number from `low` to `high` for each good.
+/// Reads a row of a word and a number from `low` to `high` for each of `goods` goods, at most 8.
+///
+/// The code is that of the first test that fails: `Place` where the first field is another word, `Fields` where there
+/// isn't one field more for each good; then, from left to right, `Number` where a field spells no number, and `Range`
+/// where it spells another one.
 #[tactic(auto, unfolding(crate::specs::Reading::numbers_of))]
-pub(crate) fn read_numbers(
+pub fn read_numbers(
     row: &Row,
     word: &[u8],
     goods: usize,

@@ -2,7 +2,7 @@
 ghost use Rattle.std.specs.Char.{is_ascii_digit};
 ghost use Rattle.std.specs.List.{list_all};
 ghost use Rattle.std.specs.Prelude.{◌≡◌, ◌≤ℤ◌, Some, pos, neg_ℤ, min};
-ghost use Rattle.mix_text.specs.Spelling.{is_name, is_name_byte, is_plain, name_of, name_text, negative_of, number_of, plain_of, value_after, within};
+ghost use Rattle.mix_text.specs.Spelling.{is_name, is_name_byte, is_plain, spelled_name, name_text, negative_of, spelled_number, plain_of, value_after, between};
 
 use crate::faults::Code;
 use arrayvec::ArrayString;
@@ -21,7 +21,7 @@ pub fn read_number(field: &[u8], low: i64, high: i64) -> Result<i64, Code>
     requires ordered { low ≤ℤ high }
     requires not_low { neg_ℤ (pos 10000000000000) ≤ℤ low }
     requires not_high { high ≤ℤ pos 10000000000000 }
-    ensures { result ≡ within low high (number_of field.now) }
+    ensures { result ≡ between low high (spelled_number field.now) }
 {
     match field {
         [b'-', digits @ ..] => read_negative(digits, low, high),
@@ -30,9 +30,9 @@ pub fn read_number(field: &[u8], low: i64, high: i64) -> Result<i64, Code>
 }
 
 /// The name that a field spells; the code is `Name` where it spells none.
-#[tactic(auto, using(crate::proofs::Spellings::name_is_text), unfolding(crate::specs::Spelling::name_of))]
+#[tactic(auto, using(crate::proofs::Spellings::name_is_text), unfolding(crate::specs::Spelling::spelled_name))]
 pub fn read_name(field: &[u8]) -> Result<Name, Code>
-    ensures { name_text result ≡ name_of field.now }
+    ensures { name_text result ≡ spelled_name field.now }
 {
     if !spells_name(field) {
         return Err(Code::Name);
@@ -47,10 +47,10 @@ pub fn read_name(field: &[u8]) -> Result<Name, Code>
 }
 
 // The number that digits with no sign spell.
-#[tactic(auto, using(crate::proofs::Digits::capped_plain, crate::proofs::Spellings::plain_some, crate::proofs::Spellings::plain_none, crate::proofs::Spellings::within_none))]
+#[tactic(auto, using(crate::proofs::Digits::capped_plain, crate::proofs::Spellings::plain_some, crate::proofs::Spellings::plain_none, crate::proofs::Spellings::between_none))]
 fn read_plain(digits: &[u8], low: i64, high: i64) -> Result<i64, Code>
     requires { high ≤ℤ pos 10000000000000 }
-    ensures { result ≡ within low high (plain_of digits.now) }
+    ensures { result ≡ between low high (plain_of digits.now) }
 {
     if !is_plain_number(digits) {
         return Err(Code::Number);
@@ -59,10 +59,10 @@ fn read_plain(digits: &[u8], low: i64, high: i64) -> Result<i64, Code>
 }
 
 // The number that digits after a minus spell.
-#[tactic(auto, using(crate::proofs::Digits::capped_negative, crate::proofs::Spellings::negative_some, crate::proofs::Spellings::negative_none, crate::proofs::Spellings::negative_zero, crate::proofs::Spellings::within_none))]
+#[tactic(auto, using(crate::proofs::Digits::capped_negative, crate::proofs::Spellings::negative_some, crate::proofs::Spellings::negative_none, crate::proofs::Spellings::negative_zero, crate::proofs::Spellings::between_none))]
 fn read_negative(digits: &[u8], low: i64, high: i64) -> Result<i64, Code>
     requires { neg_ℤ (pos 10000000000000) ≤ℤ low }
-    ensures { result ≡ within low high (negative_of digits.now) }
+    ensures { result ≡ between low high (negative_of digits.now) }
 {
     if !is_plain_number(digits) {
         return Err(Code::Number);
@@ -75,9 +75,9 @@ fn read_negative(digits: &[u8], low: i64, high: i64) -> Result<i64, Code>
 }
 
 // A number that lies from `low` to `high`.
-#[tactic(auto, unfolding(crate::specs::Spelling::within))]
+#[tactic(auto, unfolding(crate::specs::Spelling::between))]
 fn in_range(value: i64, low: i64, high: i64) -> Result<i64, Code>
-    ensures { result ≡ within low high (Some value) }
+    ensures { result ≡ between low high (Some value) }
 {
     if low <= value && value <= high {
         Ok(value)

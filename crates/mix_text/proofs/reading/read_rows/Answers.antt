@@ -6,13 +6,13 @@ use Rattle.mix_text.proofs.SoundAuctions.{auction_ok, goods_ok}
 use Rattle.mix_text.proofs.reading.read_rows.Goals as goal
 
 pub read_amounts-requires : goal.read_amounts-requires
-read_amounts-requires c = let few = (goods_ok _ _ c.in_ok-goods.ensures.read).few in omega (arith, c.len-count.ensures)
+read_amounts-requires c = let few = (goods_ok mix_one _ _ c.in_ok-goods.ensures.read).few in omega (arith, c.len-count.ensures)
 
 pub read_amounts-requires-2 : goal.read_amounts-requires-2
-read_amounts-requires-2 c = let few = (goods_ok _ _ c.in_ok-goods.ensures.read).few in omega (arith, c.len-count.ensures)
+read_amounts-requires-2 c = let few = (goods_ok mix_one _ _ c.in_ok-goods.ensures.read).few in omega (arith, c.len-count.ensures)
 
 pub read_bids-requires : goal.read_bids-requires
-read_bids-requires c = let goods = goods_ok _ _ c.in_ok-goods.ensures.read in (omega (arith, c.len-count.ensures, goods.some), omega (arith, c.len-count.ensures, goods.few))
+read_bids-requires c = let goods = goods_ok mix_one _ _ c.in_ok-goods.ensures.read in (omega (arith, c.len-count.ensures, goods.some), omega (arith, c.len-count.ensures, goods.few))
 
 pub invariant_of-result : goal.invariant_of-result
 invariant_of-result c =

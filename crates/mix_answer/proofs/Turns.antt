@@ -1,0 +1,42 @@
+-- Numbers read in turn: what comes of those that are left, given what came of those before.
+use Rattle.std.proofs.Common.{◌≡◌, ◌<◌, ◌≤◌, ◌+◌, ◌-◌, ℕ, suc, List, [], ◌∷◌, ◌++◌, length, drop, take, get_or, refl, sym, ap, append_assoc, arith, Ok, Err, Result, append-nil}
+use Rattle.std.proofs.lemmas.List.{drop_more}
+use Rattle.mix_text.specs.declared.faults.Code.{Code}
+use Rattle.mix_text.specs.Reading.{◌>>=◌, each_of}
+
+-- what the n - j fields from a place on give, after what came before
+abbrev pub rest_of : {X : Type 0} → (List ℕ → Result X Code) → List X → ℕ → ℕ → ℕ → List (List ℕ) → Result (List X) Code
+rest_of read done first n j fields = each_of read (take (n - j) (drop (first + j) fields)) >>= λ xs. Ok (done ++ xs)
+
+-- at first it is what all give
+pub rest_first : {X : Type 0} (read : List ℕ → Result X Code) (first n : ℕ) (fields : List (List ℕ)) → rest_of read [] first n 0 fields ≡ each_of read (take n (drop first fields))
+rest_first {X = X} read first n fields =
+    let all : n - 0 ≡ n = omega arith in
+    let start : first + 0 ≡ first = omega arith in
+    rw (all, start) (at (each_of read (take n (drop first fields))))
+  where
+    at : (r : Result (List X) Code) → (r >>= λ xs. Ok ([] ++ xs)) ≡ r
+    at (Ok xs) = refl
+    at (Err e) = refl
+
+-- at last it is what came
+pub rest_last : {X : Type 0} (read : List ℕ → Result X Code) (done : List X) (first n j : ℕ) (fields : List (List ℕ)) → n ≤ j → rest_of read done first n j fields ≡ Ok done
+rest_last read done first n j fields h = let none : n - j ≡ 0 = omega arith in rw none (ap Ok (append-nil done))
+
+from : (first n j : ℕ) (fields : List (List ℕ)) → j < n → first + j < length fields → take (n - j) (drop (first + j) fields) ≡ get_or fields (first + j) [] ∷ take (n - (j + 1)) (drop (first + (j + 1)) fields)
+from first n j fields h l =
+    let more : n - j ≡ suc (n - (j + 1)) = omega arith in
+    let next : first + (j + 1) ≡ (first + j) + 1 = omega arith in
+    rw (more, next, drop_more fields (first + j) [] l) refl
+
+pub rest_next : {X : Type 0} (read : List ℕ → Result X Code) (done : List X) (first n j : ℕ) (fields : List (List ℕ)) (x : X) → j < n → first + j < length fields → read (get_or fields (first + j) []) ≡ Ok x
+    → rest_of read done first n j fields ≡ rest_of read (done ++ (x ∷ [])) first n (j + 1) fields
+rest_next {X = X} read done first n j fields x h l e = rw (from first n j fields h l, e) (at (each_of read (take (n - (j + 1)) (drop (first + (j + 1)) fields))))
+  where
+    at : (r : Result (List X) Code) → ((r >>= λ xs. Ok (x ∷ xs)) >>= λ xs. Ok (done ++ xs)) ≡ (r >>= λ xs. Ok ((done ++ (x ∷ [])) ++ xs))
+    at (Ok xs) = ap Ok (sym (append_assoc done (x ∷ []) xs))
+    at (Err e) = refl
+
+pub rest_wrong : {X : Type 0} (read : List ℕ → Result X Code) (done : List X) (first n j : ℕ) (fields : List (List ℕ)) (e : Code) → j < n → first + j < length fields → read (get_or fields (first + j) []) ≡ Err e
+    → rest_of read done first n j fields ≡ Err e
+rest_wrong read done first n j fields e h l w = rw (from first n j fields h l, w) refl
