@@ -1,0 +1,14 @@
+mod PrintedBids
+mod PrintedAuctions
+mod ReadFields
+mod ReadBids
+mod GatheredBids
+mod ReadAuctions
+mod GeneratorWords
+mod DrawnTurns
+mod TrialBids
+mod TrialNames
+mod ConvexBlocks
+mod ConvexTrials
+mod TrialAuctions
+mod TrialWords

@@ -1,0 +1,42 @@
+-- The text of an auction, row by row, the bids of each bidder together.
+use Rattle.std.specs.Prelude.{ℕ, List, [], ◌∷◌, ◌++◌, ℤ, Option, Some, None, map, codes}
+use Rattle.std.specs.Fmt.{signed_decimal}
+use Rattle.mix_bids.specs.declared.bid.Bid.{Bid}
+use Rattle.mix_text.specs.Auctions.{AuctionText}
+use Rattle.mix_text.specs.Bidders.{Named}
+
+-- the first row
+abbrev pub head_row : List (List ℕ)
+head_row = codes "mix" ∷ codes "1" ∷ []
+
+-- the row of the goods
+abbrev pub goods_row : List (List ℕ) → List (List ℕ)
+goods_row names = codes "goods" ∷ names
+
+-- a row of a word and numbers
+abbrev pub amounts_row : List ℕ → List ℤ → List (List ℕ)
+amounts_row word amounts = word ∷ map signed_decimal amounts
+
+-- a value as it is written: `-` where the good is left out
+abbrev pub value_text : Option ℤ → List ℕ
+value_text None = codes "-"
+value_text (Some value) = signed_decimal value
+
+-- the row of a bid: the bidder's name, the weight, and what is bid for each good
+abbrev pub bid_row : List ℕ → Bid → List (List ℕ)
+bid_row name bid = codes "bid" ∷ name ∷ signed_decimal bid.weight ∷ map value_text bid.values.items
+
+-- the rows of the bidders, the bids of each together
+abbrev pub bidder_rows : Named → List (List (List ℕ))
+bidder_rows [] = []
+bidder_rows (bidder ∷ rest) = map (bid_row bidder.0) bidder.1.bids ++ bidder_rows rest
+
+-- the last row
+abbrev pub end_row : List (List ℕ)
+end_row = codes "end" ∷ []
+
+-- all rows
+abbrev pub auction_rows : AuctionText → List (List (List ℕ))
+auction_rows a =
+    head_row ∷ goods_row a.goods ∷ amounts_row (codes "supply") a.supply ∷ amounts_row (codes "reserve") a.reserve
+    ∷ (bidder_rows a.bidders ++ end_row ∷ [])
