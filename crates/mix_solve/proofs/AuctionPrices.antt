@@ -16,7 +16,8 @@ use Rattle.mix_market.specs.Lyapunov.{IsLeastPoint, lyapunov}
 use Rattle.mix_market.specs.Markets.{goods_of, members_of, seller_of}
 use Rattle.mix_market.specs.declared.market.Market.{Market}
 use Rattle.mix_solve.specs.Admissions.{IsMarketOf, books_of}
-use Rattle.mix_solve.specs.LeastPrices.{AreLeastPrices, utilities_of}
+use Rattle.mix_answer.specs.Utilities.{utilities_of}
+use Rattle.mix_solve.specs.LeastPrices.{AreLeastPrices}
 
 -- reserves lie within the range of a start of the climb
 pub reserves_within : (supply reserve : List ℤ) → IsForSale supply reserve → AreWithin 1000000 (length supply) reserve
@@ -32,7 +33,7 @@ bidders_functions [] = refl
 bidders_functions (bidder ∷ bidders) = ap (λ (functions : List (Vector → ℤ)). utility bidder.1.bids ∷ functions) (bidders_functions bidders)
 
 -- lists that are those of the bidders have the bidders' utilities
-lists_utilities : (bidders : Named) (lists : List ValidList) → map book_of lists ≡ books_of bidders → map (λ valid. utility (book_of valid).bids) lists ≡ utilities_of bidders
+pub lists_utilities : (bidders : Named) (lists : List ValidList) → map book_of lists ≡ books_of bidders → map (λ valid. utility (book_of valid).bids) lists ≡ utilities_of bidders
 lists_utilities bidders lists same =
     lists_functions lists
     ∙ ap (λ (books : List Book). map (λ book. utility book.bids) books) same

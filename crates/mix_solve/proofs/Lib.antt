@@ -1,3 +1,8 @@
 pub mod AuctionPrices
+pub mod AuctionAnswers
+mod AnswerShapes
+mod AuctionLaws
+mod FilledRows
+mod LeastPointsClear
 mod ListsInOrder
-pub mod TrueRefusals
+mod MarketShares

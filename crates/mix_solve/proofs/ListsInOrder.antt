@@ -6,13 +6,13 @@ use Rattle.std.proofs.lemmas.List.{length-map, map-append}
 use Rattle.std.proofs.lemmas.List.Elements.{All-get_or, All-map}
 use Rattle.mix_bids.specs.Bids.{Book}
 use Rattle.mix_bids.specs.Convexity.{IsConvexList}
-use Rattle.mix_validity.specs.Refusals.{IsNegativeFacet}
+use Rattle.mix_bids.specs.Facets.{IsNegativeFacet}
 use Rattle.mix_validity.specs.ValidLists.{book_of}
 use Rattle.mix_validity.specs.declared.valid_list.ValidList.{ValidList}
 use Rattle.mix_text.specs.Auctions.{AuctionText, IsAuction, IsBook}
 use Rattle.mix_text.specs.Bidders.{Named, list_at}
 use Rattle.mix_solve.specs.Admissions.{IsRefusedAt, IsRefusedFirst, books_of}
-use Rattle.mix_solve.specs.Refusals.{AreConvexBefore, facet_of}
+use Rattle.mix_answer.specs.Refusals.{AreConvexBefore}
 use Rattle.mix_solve.specs.declared.admission.Stopped.{Stopped}
 use Rattle.mix_solve.specs.declared.admission.Stopped.TheVariants.{Memory, Refused}
 
@@ -38,7 +38,7 @@ refused_first bidders k (Refused r) h convex at = record {
   bidder = subst (λ (j : ℕ). j < length bidders) (sym at.0) h;
   first = subst (AreConvexBefore bidders) (sym at.0) convex;
   refused = subst (λ (j : ℕ). ¬ IsConvexList (list_at bidders j).bids) (sym at.0) at.1;
-  facet = subst (λ (j : ℕ). IsNegativeFacet (list_at bidders j) (facet_of r)) (sym at.0) at.2;
+  facet = subst (λ (j : ℕ). IsNegativeFacet (list_at bidders j) r.first r.second r.prices.items r.weight) (sym at.0) at.2;
 }
 refused_first bidders k Memory h convex at = tt
 

@@ -3,7 +3,7 @@ use Rattle.std.specs.Prelude.{◌≡◌, ℕ, List, map}
 use Rattle.mix_bids.specs.Bids.{Book}
 use Rattle.mix_bids.specs.Convexity.{IsConvexList}
 use Rattle.mix_law.specs.declared.convex.Convex.{Ghosts}
-use Rattle.mix_validity.specs.Refusals.{IsNegativeFacet}
+use Rattle.mix_bids.specs.Facets.{IsNegativeFacet}
 use Rattle.mix_validity.specs.ValidLists.{book_of}
 use Rattle.mix_validity.specs.declared.valid_list.ValidList.{ValidList}
 use Rattle.mix_text.specs.Auctions.{AuctionText}
@@ -12,7 +12,7 @@ use Rattle.mix_seller.specs.Sellers.{reserve_of, supply_of}
 use Rattle.mix_market.specs.Markets.{members_of, seller_of}
 use Rattle.mix_market.specs.declared.market.Market.{Market as MarketOf}
 use Rattle.mix_answer.specs.Shapes.{FitsAuction}
-use Rattle.mix_solve.specs.Refusals.{AreConvex, IsTrueRefusal, facet_of}
+use Rattle.mix_answer.specs.Refusals.{AreConvex, IsTrueRefusal}
 use Rattle.mix_solve.specs.declared.admission.Admitted.{Admitted}
 use Rattle.mix_solve.specs.declared.admission.Admitted.TheVariants.{Market, Refused}
 use Rattle.mix_solve.specs.declared.admission.Stopped.{Stopped}
@@ -41,5 +41,5 @@ IsRefusedFirst bidders Memory = Unit {0}
 
 -- the list of the bidder at a place isn't convex, and a facet of it has negative weight; of want of memory nothing is said
 abbrev pub IsRefusedAt : Named → ℕ → Stopped → Type 0
-IsRefusedAt bidders k (RefusedOne r) = (r.bidder ≡ k) × ¬ IsConvexList (list_at bidders k).bids × IsNegativeFacet (list_at bidders k) (facet_of r)
+IsRefusedAt bidders k (RefusedOne r) = (r.bidder ≡ k) × ¬ IsConvexList (list_at bidders k).bids × IsNegativeFacet (list_at bidders k) r.first r.second r.prices.items r.weight
 IsRefusedAt bidders k Memory = Unit {0}

@@ -1,14 +1,9 @@
 -- The least prices of an auction.
-use Rattle.std.specs.Prelude.{◌≡◌, List, ℤ, length, map}
-use Rattle.mix_num.specs.Vectors.{Vector, with_null}
-use Rattle.mix_bids.specs.Bids.{utility}
+use Rattle.std.specs.Prelude.{◌≡◌, List, ℤ, length}
+use Rattle.mix_num.specs.Vectors.{with_null}
 use Rattle.mix_text.specs.Auctions.{AuctionText}
-use Rattle.mix_text.specs.Bidders.{Named}
 use Rattle.mix_market.specs.Lyapunov.{IsLeastPoint, lyapunov}
-
--- the bidders' indirect utilities, as functions of the prices
-abbrev pub utilities_of : Named → List (Vector → ℤ)
-utilities_of bidders = map (λ bidder. utility bidder.1.bids) bidders
+use Rattle.mix_answer.specs.Utilities.{utilities_of}
 
 -- a price for each good: of all at or above the reserves, the least point of the bidders' utilities and the supply's worth
 pub record AreLeastPrices (a : AuctionText) (prices : List ℤ) : Type 0 where

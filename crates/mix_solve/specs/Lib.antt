@@ -1,3 +1,4 @@
-pub mod Refusals
 pub mod Admissions
 pub mod LeastPrices
+pub mod Solved
+pub mod Answers

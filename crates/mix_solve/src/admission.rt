@@ -5,7 +5,7 @@ ghost use Rattle.mix_text.specs.AuctionTexts.{auction_text};
 ghost use Rattle.mix_text.specs.Bidders.{list_at};
 ghost use Rattle.mix_validity.specs.ValidLists.{book_of};
 ghost use Rattle.mix_solve.specs.Admissions.{IsAdmitted, IsRefusedAt, IsRefusedFirst, books_of};
-ghost use Rattle.mix_solve.specs.Refusals.{AreConvex};
+ghost use Rattle.mix_answer.specs.Refusals.{AreConvex};
 
 use mix_answer::Refusal;
 use mix_market::Market;

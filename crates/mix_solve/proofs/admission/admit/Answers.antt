@@ -1,8 +1,8 @@
 use Rattle.std.proofs.Common.{◌∙◌, sym, ap, rules, length, List, ℤ}
 use Rattle.mix_text.specs.AuctionTexts.{auction_text}
-use Rattle.mix_solve.specs.Refusals.{IsTrueRefusal}
+use Rattle.mix_answer.specs.Refusals.{IsTrueRefusal}
 use Rattle.mix_solve.proofs.ListsInOrder.{same_goods}
-use Rattle.mix_solve.proofs.TrueRefusals.{fits}
+use Rattle.mix_answer.proofs.TrueRefusals.{fits}
 use Rattle.mix_solve.proofs.admission.admit.Goals as goal
 
 pub new-requires-clause-same_goods : goal.new-requires-clause-same_goods

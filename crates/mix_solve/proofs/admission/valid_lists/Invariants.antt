@@ -1,7 +1,7 @@
 use Rattle.std.proofs.Common.{◌≡◌, ◌++◌, drop, map}
 use Rattle.mix_validity.specs.ValidLists.{book_of}
 use Rattle.mix_solve.specs.Admissions.{books_of}
-use Rattle.mix_solve.specs.Refusals.{AreConvexBefore}
+use Rattle.mix_answer.specs.Refusals.{AreConvexBefore}
 use Rattle.mix_solve.proofs.admission.valid_lists.Given as goal
 
 -- the lists so far, and those of the bidders from here on, are the lists of all; those so far are convex

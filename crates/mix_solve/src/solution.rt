@@ -1,0 +1,75 @@
+// The whole way from an auction to its outcome.
+ghost use Rattle.std.specs.Prelude.{◌≡◌, ◌↔◌, map, IfOk};
+ghost use Rattle.mix_bids.specs.Bids.{utility};
+ghost use Rattle.mix_validity.specs.ValidLists.{book_of};
+ghost use Rattle.mix_text.specs.AuctionTexts.{auction_text};
+ghost use Rattle.mix_seller.specs.Sellers.{reserve_of, supply_of};
+ghost use Rattle.mix_market.specs.Markets.{members_of, seller_of};
+ghost use Rattle.mix_clearing.specs.Scales.{AreLeastOfFractions};
+ghost use Rattle.mix_clearing.specs.Values.{AreWorthMost};
+ghost use Rattle.mix_answer.specs.Refusals.{AreConvex};
+ghost use Rattle.mix_answer.specs.Shapes.{HasShape};
+ghost use Rattle.mix_answer.specs.Truths.{HaveFirstTights, IsTrueOutcome, bundles_of};
+ghost use Rattle.mix_answer.specs.Utilities.{scaled_utilities_of, utilities_of};
+ghost use Rattle.mix_solve.specs.Answers.{IsAnswerFor};
+ghost use Rattle.mix_solve.specs.Solved.{IsCleared, IsRefusal, OfAnswer};
+
+use crate::admission::{Admitted, admit};
+use crate::charging::charge;
+use crate::least::least_prices;
+use crate::sharing::share_out;
+use mix_answer::{Answer, Outcome, Tights};
+use mix_market::Market;
+use mix_num::{Memory, Tight};
+use mix_text::Auction;
+use mix_validity::ValidList;
+use std::alloc::Global;
+
+/// The outcome of an auction. Where each bidder's list is convex, it is the answer: the least clearing prices at or above the
+/// reserves, the bundles that clear there by the tie rule in the order of first appearance, what each bidder pays, what is
+/// left with the seller, and the first tight pair of each bidder and each good. Else it is a refusal of the first bidder whose
+/// list isn't convex, with a facet of it that has negative weight.
+///
+/// No other allocation is worth more than that of an answer, and no prices with fractions clear below its prices. `Memory`
+/// comes where memory is wanting.
+pub fn solve(alloc: Global, auction: &Auction) -> Result<Outcome, Memory>
+    ensures true_outcome { IfOk result (IsTrueOutcome (auction_text auction.now)) }
+    ensures shape { IfOk result (HasShape (auction_text auction.now)) }
+    ensures refused { IfOk result (λ outcome. IsRefusal outcome ↔ ¬ AreConvex auction.now.bidders) }
+    ensures cleared { IfOk result (λ outcome. IsCleared outcome ↔ AreConvex auction.now.bidders) }
+    ensures first_tights { IfOk result (OfAnswer (HaveFirstTights (auction_text auction.now))) }
+    ensures worth { IfOk result (OfAnswer (λ answer. AreWorthMost (utilities_of auction.now.bidders) auction.now.supply.items auction.now.reserve.items (bundles_of answer) answer.returns.items)) }
+    ensures fractions { IfOk result (OfAnswer (λ answer. AreLeastOfFractions (scaled_utilities_of auction.now.bidders) auction.now.supply.items auction.now.reserve.items answer.prices.items)) }
+{
+    match admit(alloc, auction)? {
+        Admitted::Refused(refusal) => Ok(Outcome::Refused(refusal)),
+        Admitted::Market(market) => Ok(Outcome::Cleared(answer_of(alloc, &market)?)),
+    }
+}
+
+/// The answer of a market.
+fn answer_of(alloc: Global, market: &Market<ValidList>) -> Result<Answer, Memory>
+    ensures { IfOk result (IsAnswerFor (map (λ valid. utility (book_of valid).bids) (members_of market.now)) (supply_of (seller_of market.now)) (reserve_of (seller_of market.now))) }
+{
+    let prices = least_prices(market);
+    let sharing = share_out(alloc, market, &prices)?;
+    let shares = charge(alloc, &prices, sharing.bundles)?;
+    let tights = listed(alloc, &sharing.tights)?;
+    Ok(Answer {
+        prices,
+        shares,
+        returns: sharing.returns,
+        tights,
+    })
+}
+
+/// The pairs as the list that an answer has.
+fn listed(alloc: Global, pairs: &[Tight]) -> Result<Tights, Memory>
+    ensures { IfOk result (λ tights. tights ≡ pairs.now) }
+{
+    let mut tights = Tights::new(alloc);
+    for pair in pairs {
+        tights.push(*pair)?;
+    }
+    Ok(tights)
+}
