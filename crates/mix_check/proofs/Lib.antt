@@ -1,0 +1,10 @@
+mod FirstReasons
+pub mod AuctionFacts
+pub mod Truths
+mod WordSums
+mod TableSums
+mod Spares
+mod PairNumbers
+mod FreeFalls
+mod DemandTests
+pub mod VerdictFacts

@@ -1,0 +1,153 @@
+-- What is left of the supply, less all that the members still to come can take: turn by turn, it grows by a bidder's table, which leaves what must
+-- be given to the bidder, and falls by its bundle.
+use Rattle.std.proofs.Common.{◌≡◌, ℕ, zero, suc, ◌+◌, ◌*◌, ◌^◌, ◌≤◌, ◌<◌, ℤ, pos, ◌+ℤ◌, ◌-ℤ◌, List, [], ◌∷◌, ◌++◌, map, length, get_or, take, sym, ap, ap₂, ◌∙◌, subst, arith, length-append}
+use Rattle.std.proofs.Math.Seq.{drop-cons}
+use Rattle.std.proofs.lemmas.Int.{ints}
+use Rattle.std.proofs.lemmas.List.{ext_get_or, get_or-map, get_or_append_left, length-map}
+use Rattle.mix_num.specs.Sellers.{seller_gain}
+use Rattle.mix_num.specs.Sums.{sum_in}
+use Rattle.mix_num.specs.Shares.{sum_at, supply_null}
+use Rattle.mix_num.specs.Tables.{IsProper, number_of, share_in}
+use Rattle.mix_num.specs.Ranges.{Lies}
+use Rattle.mix_num.specs.Pairs.{floor_at, shares_in}
+use Rattle.mix_law.specs.Demands.{IsTableOf, table_of}
+use Rattle.mix_clearing.specs.Certificates.{tables_at}
+use Rattle.mix_clearing.specs.Clearings.{bidder_utility}
+use Rattle.mix_clearing.proofs.TableLists.{is-table_of}
+use Rattle.mix_text.specs.Auctions.{AuctionText, IsAuction}
+use Rattle.mix_answer.specs.Shapes.{HasAnswerShape}
+use Rattle.mix_answer.specs.Truths.{bundles_of, order_of}
+use Rattle.mix_answer.specs.Utilities.{utilities_of}
+use Rattle.mix_answer.specs.declared.outcome.Answer.{Answer}
+use Rattle.mix_check.specs.declared.tables.Tables.{Tables}
+use Rattle.mix_check.specs.Tests.{AreTablesAt, AreTablesOfFirst, HaveSums, IsTurn, LieWithin, rows_of, spare_at}
+use Rattle.mix_check.proofs.TableSums.{number-range, rows-sum}
+use Rattle.mix_check.proofs.WordSums.{lies-wider}
+use Rattle.mix_check.proofs.AuctionFacts.{in-order_of, length-bundles, length-utilities}
+
+-- ---- plain lists
+-- before the first turn nothing is given
+pub spare-start : (n : ℕ) (rows : List (List ℤ)) (supply : List ℤ) (bundles : List (List ℤ)) (set : ℕ)
+    → spare_at n rows supply bundles 0 set ≡ sum_in (supply_null n rows supply ∷ supply) set -ℤ sum_at rows set
+spare-start n rows supply bundles set = omega (arith, ints)
+
+-- so what is written first is what is left then
+pub start-is : (n : ℕ) (tables : Tables) → HaveSums n tables → (supply : List ℤ) (set : ℕ) → set < 2 ^ suc n → (null written : ℤ)
+    → written ≡ sum_in (null ∷ supply) set -ℤ (number_of tables.sum set +ℤ number_of tables.seller set) → null ≡ supply_null n (rows_of tables) supply
+    → written ≡ spare_at n (rows_of tables) supply [] 0 set
+start-is n tables have supply set l null written e same =
+    let sum = rows-sum n tables have set l in
+    let first = spare-start n (rows_of tables) supply [] set in
+    let in_set = ap (λ (z : ℤ). sum_in (z ∷ supply) set) same in
+    omega (arith, ints, e, sum, first, in_set)
+
+-- a bidder's table is given back at its turn
+pub spare-give : (n : ℕ) (rows : List (List ℤ)) (supply : List ℤ) (bundles : List (List ℤ)) (k set : ℕ) → k < length rows
+    → floor_at n rows supply bundles k set ≡ spare_at n rows supply bundles k set +ℤ number_of (get_or rows k []) set
+spare-give n rows supply bundles k set l =
+    let e = ap (λ (rs : List (List ℤ)). sum_at rs set) (drop-cons rows k [] l) in
+    omega (arith, ints, e)
+
+-- the shares of one member more
+shares-more : (n : ℕ) (rows bundles : List (List ℤ)) (k set : ℕ) → k < length rows → k < length bundles
+    → shares_in n (take (suc k) rows) (take (suc k) bundles) set ≡ shares_in n (take k rows) (take k bundles) set +ℤ share_in n (get_or rows k []) (get_or bundles k []) set
+shares-more n [] bundles k set l h = absurd (omega arith)
+shares-more n (r ∷ rows) [] k set l h = absurd (omega arith)
+shares-more n (r ∷ rows) (x ∷ bundles) zero set l h = omega (arith, ints)
+shares-more n (r ∷ rows) (x ∷ bundles) (suc k) set l h = let a = shares-more n rows bundles k set (omega arith) (omega arith) in omega (arith, ints, a)
+
+-- and its bundle taken
+pub spare-take : (n : ℕ) (rows : List (List ℤ)) (supply : List ℤ) (bundles : List (List ℤ)) (k set : ℕ) → k < length rows → k < length bundles
+    → spare_at n rows supply bundles (suc k) set ≡ floor_at n rows supply bundles k set -ℤ share_in n (get_or rows k []) (get_or bundles k []) set
+spare-take n rows supply bundles k set l h = let a = shares-more n rows bundles k set l h in omega (arith, ints, a)
+
+-- ---- ranges of what is kept, turn by turn
+pub few-bidders : (k m : ℕ) → k < m → m ≤ 256 → k < 256
+few-bidders k m l h = omega (arith, l, h)
+
+pub start-range : (n k : ℕ) (spare : List ℤ) → LieWithin n (9000000000 + 150000000 * k) spare → k < 256 → LieWithin n 4000000000000 spare
+start-range n k spare lies few set l = lies-wider (9000000000 + 150000000 * k) 4000000000000 (number_of spare set) (omega (arith, few)) (lies set l)
+
+pub give-range : (n k : ℕ) (table spare now : List ℤ) → IsProper n table → k < 256 → LieWithin n (9000000000 + 150000000 * k) spare
+    → ((set : ℕ) → set < length table → number_of now set ≡ number_of spare set +ℤ number_of table set) → LieWithin n 4000000000000 now
+give-range n k table spare now proper few lies is set l =
+    let size = proper.size in
+    let own = number-range n table proper set l in
+    let old = lies set l in
+    let e = is set (omega (arith, l, size)) in
+    (omega (arith, ints, own, old, e, few), omega (arith, ints, own, old, e, few))
+
+pub take-range : (k : ℕ) (spare number given now : ℤ) (n : ℕ) (table : List ℤ) (set : ℕ) → IsProper n table → set < 2 ^ suc n → number ≡ number_of table set
+    → Lies (9000000000 + 150000000 * k) spare → given ≡ spare +ℤ number → Lies 140000000 (given -ℤ now) → Lies (9000000000 + 150000000 * (k + 1)) now
+take-range k spare number given now n table set proper l is old e near =
+    let own = number-range n table proper set l in
+    (omega (arith, ints, own, is, old, e, near), omega (arith, ints, own, is, old, e, near))
+
+-- ---- the tables of an auction
+mapped : (a : AuctionText) (prices : List ℤ) → length (map (λ f. table_of (length a.supply) f prices) (utilities_of a.bidders)) ≡ length a.bidders
+mapped a prices = length-map (utilities_of a.bidders) (λ f. table_of (length a.supply) f prices) ∙ length-utilities a
+
+-- the bidders' tables that are kept, as one list
+bidders-are : (a : AuctionText) (prices : List ℤ) (tables : List (List ℤ)) → IsAuction a → AreTablesOfFirst a prices (length a.bidders) tables
+    → tables ≡ map (λ f. table_of (length a.supply) f prices) (utilities_of a.bidders)
+bidders-are a prices tables sound are = ext_get_or [] tables (map (λ f. table_of (length a.supply) f prices) (utilities_of a.bidders)) (are.count ∙ sym (mapped a prices)) each
+  where
+    each : (k : ℕ) → k < length tables → get_or tables k [] ≡ get_or (map (λ f. table_of (length a.supply) f prices) (utilities_of a.bidders)) k []
+    each k l =
+        let size = are.count in
+        let few = length-utilities a in
+        let h : k < length a.bidders = omega (arith, l, size) in
+        let is : IsTableOf (length a.supply) (bidder_utility (utilities_of a.bidders) k) prices (get_or tables k []) =
+        subst (λ (n : ℕ). IsTableOf n (bidder_utility (utilities_of a.bidders) k) prices (get_or tables k [])) (sym sound.supply.0) (are.are k h) in
+        is-table_of (length a.supply) (bidder_utility (utilities_of a.bidders) k) prices (get_or tables k []) is
+        ∙ sym (get_or-map (λ f. table_of (length a.supply) f prices) (utilities_of a.bidders) k (λ x. pos 0) [] (omega (arith, h, few)))
+
+-- the tables that are kept are those of all members in their order
+pub rows-are : (a : AuctionText) (prices : List ℤ) (tables : Tables) → IsAuction a → AreTablesAt a prices tables
+    → tables_at (utilities_of a.bidders) a.supply a.reserve prices (order_of a) ≡ rows_of tables
+rows-are a prices tables sound are =
+    ap (λ (lists : List (List ℤ)). lists ++ table_of (length a.supply) (seller_gain a.supply a.reserve) prices ∷ [])
+    (in-order_of a (map (λ f. table_of (length a.supply) f prices) (utilities_of a.bidders)) (mapped a prices) ∙ sym (bidders-are a prices tables.bidders.items sound are.bidders))
+    ∙ ap (λ (last : List ℤ). tables.bidders.items ++ last ∷ [])
+    (sym (is-table_of (length a.supply) (seller_gain a.supply a.reserve) prices tables.seller
+    (subst (λ (n : ℕ). IsTableOf n (seller_gain a.supply a.reserve) prices tables.seller) (sym sound.supply.0) are.seller)))
+
+-- the k-th row
+pub row-at : (tables : Tables) (k : ℕ) → k < length tables.bidders.items → get_or (rows_of tables) k [] ≡ get_or tables.bidders.items k []
+row-at tables k l = get_or_append_left tables.bidders.items (tables.seller ∷ []) [] k l
+
+-- what is kept at a bidder's turn is what must be given to it
+pub give-turn : (n : ℕ) (tables : Tables) (supply : List ℤ) (bundles : List (List ℤ)) (k set : ℕ) (table : List ℤ) → k < length tables.bidders.items → table ≡ get_or tables.bidders.items k []
+    → (spare given : ℤ) → spare ≡ spare_at n (rows_of tables) supply bundles k set → given ≡ spare +ℤ number_of table set → given ≡ floor_at n (rows_of tables) supply bundles k set
+give-turn n tables supply bundles k set table l own spare given e f =
+    let rows : k < length (rows_of tables) = let a = length-append tables.bidders.items (tables.seller ∷ []) in omega (arith, l, a) in
+    let give = spare-give n (rows_of tables) supply bundles k set rows in
+    let row = ap (λ (t : List ℤ). number_of t set) (own ∙ sym (row-at tables k l)) in
+    omega (arith, ints, e, f, give, row)
+
+-- and after it what is left for the next
+pub take-turn : (n : ℕ) (tables : Tables) (supply : List ℤ) (bundles : List (List ℤ)) (k set : ℕ) (table bundle : List ℤ) → k < length tables.bidders.items → k < length bundles → table ≡ get_or tables.bidders.items k []
+    → bundle ≡ get_or bundles k [] → length bundle ≡ n → (spare given now : ℤ) → spare ≡ spare_at n (rows_of tables) supply bundles k set → given ≡ spare +ℤ number_of table set
+    → now ≡ given -ℤ share_in (length bundle) table bundle set → now ≡ spare_at n (rows_of tables) supply bundles (suc k) set
+take-turn n tables supply bundles k set table bundle l h own is size spare given now e f g =
+    let rows : k < length (rows_of tables) = let a = length-append tables.bidders.items (tables.seller ∷ []) in omega (arith, l, a) in
+    let needed = give-turn n tables supply bundles k set table l own spare given e f in
+    let take = spare-take n (rows_of tables) supply bundles k set rows h in
+    let share = ap (λ (m : ℕ). share_in m table bundle set) size ∙ ap₂ (λ (t b : List ℤ). share_in n t b set) (own ∙ sym (row-at tables k l)) is in
+    omega (arith, ints, needed, take, share, g)
+
+-- the turn of a bidder
+pub turn-at : (a : AuctionText) (answer : Answer) (tables : Tables) (k : ℕ) (table floor : List ℤ) → IsAuction a → HasAnswerShape a answer → AreTablesAt a answer.prices.items tables → k < length a.bidders
+    → table ≡ get_or tables.bidders.items k []
+    → ((set : ℕ) → set < 2 ^ suc (length a.goods) → number_of floor set ≡ floor_at (length a.goods) (rows_of tables) a.supply (bundles_of answer) k set)
+    → IsTurn a answer k table floor
+turn-at a answer tables k table floor sound shape are l own needed =
+    let rows = rows-are a answer.prices.items tables sound are in
+    let bundles = in-order_of a (bundles_of answer) (length-bundles a answer shape) in
+    let size = are.bidders.count in
+    record {
+      own = own ∙ sym (row-at tables k (omega (arith, l, size))) ∙ ap (λ (rs : List (List ℤ)). get_or rs k []) (sym rows);
+      needed = λ set h.
+          needed set h
+          ∙ ap₂ (λ (rs bs : List (List ℤ)). floor_at (length a.goods) rs a.supply bs k set) (sym rows) (sym bundles);
+    }

@@ -1,0 +1,4 @@
+pub mod Reasons
+pub mod Verdicts
+pub mod Orders
+pub mod Tests

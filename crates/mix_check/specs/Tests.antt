@@ -1,0 +1,105 @@
+-- What the checker's tests show of an answer that passes them, and what its tables are. For proofs; no public clause rests on it.
+use Rattle.std.specs.Prelude.{◌≡◌, ◌<◌, ◌^◌, ◌≤◌, ◌<ℤ◌, ◌≤ℤ◌, ◌-ℤ◌, ℕ, suc, ℤ, pos, List, [], ◌∷◌, ◌++◌, length, get_or, drop}
+use Rattle.mix_num.specs.Vectors.{with_null}
+use Rattle.mix_num.specs.Sellers.{seller_gain}
+use Rattle.mix_num.specs.Sums.{dot_of}
+use Rattle.mix_num.specs.Shares.{sum_at}
+use Rattle.mix_num.specs.Tables.{IsProper, number_of}
+use Rattle.mix_num.specs.Orders.{in_order, place_at}
+use Rattle.mix_num.specs.Pairs.{floor_at, left_at}
+use Rattle.mix_num.specs.Ranges.{Lies}
+use Rattle.mix_law.specs.Demands.{IsDemanded, IsTableOf}
+use Rattle.mix_market.specs.Lyapunov.{lyapunov}
+use Rattle.mix_clearing.specs.Certificates.{IsTightPair, tables_at}
+use Rattle.mix_clearing.specs.Clearings.{bidder_utility}
+use Rattle.mix_clearing.specs.Lowerings.{RisesWhereFallen}
+use Rattle.mix_bids.specs.Convexity.{IsConvexList}
+use Rattle.mix_text.specs.Auctions.{AuctionText}
+use Rattle.mix_text.specs.Bidders.{list_at}
+use Rattle.mix_answer.specs.Refusals.{AreConvex, AreConvexBefore}
+use Rattle.mix_answer.specs.Truths.{bundles_of, order_of, pair_of}
+use Rattle.mix_answer.specs.Utilities.{utilities_of}
+use Rattle.mix_answer.specs.declared.outcome.Answer.{Answer}
+use Rattle.mix_check.specs.declared.tables.Taken.{Taken}
+use Rattle.mix_check.specs.declared.tables.Taken.TheVariants.{Invalid, Tables as TablesOf}
+use Rattle.mix_check.specs.declared.tables.Tables.{Tables}
+use Rattle.mix_check.specs.Reasons.{bundle_of, payment_of, sum_of_good}
+
+-- of some bidders the first whose list isn't convex
+pub record IsFirstInvalid (a : AuctionText) (count k : ℕ) : Type 0 where
+  pub within : k < count
+  pub before : AreConvexBefore a.bidders k
+  pub invalid : ¬ IsConvexList (list_at a.bidders k).bids
+
+-- no price is below its reserve
+abbrev pub AreAboveReserves : AuctionText → Answer → Type 0
+AreAboveReserves a answer = (i : ℕ) → i < length a.goods → get_or a.reserve i (pos 0) ≤ℤ get_or answer.prices.items i (pos 0)
+
+-- bundles and returns add up to the supply
+abbrev pub AddUp : AuctionText → Answer → Type 0
+AddUp a answer = (i : ℕ) → i < length a.goods → sum_of_good answer i ≡ get_or a.supply i (pos 0)
+
+-- what is returned is returned at the reserve
+abbrev pub AreReturnedAtReserves : AuctionText → Answer → Type 0
+AreReturnedAtReserves a answer = (i : ℕ) → i < length a.goods → pos 0 <ℤ get_or answer.returns.items i (pos 0) → get_or answer.prices.items i (pos 0) ≡ get_or a.reserve i (pos 0)
+
+-- each bidder demands its bundle
+abbrev pub AreDemanded : AuctionText → Answer → Type 0
+AreDemanded a answer = (k : ℕ) → k < length a.bidders → IsDemanded (length a.goods) (bidder_utility (utilities_of a.bidders) k) answer.prices.items (bundle_of answer k)
+
+-- no set of prices can fall without a rise
+abbrev pub Rises : AuctionText → Answer → Type 0
+Rises a answer = RisesWhereFallen (length a.goods) (lyapunov (utilities_of a.bidders) a.supply) (with_null a.reserve) (with_null answer.prices.items)
+
+-- each bidder pays price times quantity
+abbrev pub ArePaid : AuctionText → Answer → Type 0
+ArePaid a answer = (k : ℕ) → k < length a.bidders → payment_of answer k ≡ dot_of answer.prices.items (bundle_of answer k)
+
+-- the tables of the first k bidders at prices
+pub record AreTablesOfFirst (a : AuctionText) (prices : List ℤ) (k : ℕ) (tables : List (List ℤ)) : Type 0 where
+  pub count : length tables ≡ k
+  pub are : (j : ℕ) → j < k → IsTableOf (length a.goods) (bidder_utility (utilities_of a.bidders) j) prices (get_or tables j [])
+  pub proper : (j : ℕ) → j < k → IsProper (length a.goods) (get_or tables j [])
+
+-- what comes of taking the tables of all bidders
+abbrev pub IsTaken : AuctionText → List ℤ → Taken → Type 0
+IsTaken a prices (TablesOf tables) = AreConvex a.bidders × AreTablesOfFirst a prices (length a.bidders) tables.items
+IsTaken a prices (Invalid k) = IsFirstInvalid a (length a.bidders) k
+
+-- all tables in order, the seller's last
+abbrev pub rows_of : Tables → List (List ℤ)
+rows_of tables = tables.bidders.items ++ tables.seller ∷ []
+
+-- what is left of the supply at a set once the bidders before the k-th have their bundles, less all that the members from it on can take
+abbrev pub spare_at : ℕ → List (List ℤ) → List ℤ → List (List ℤ) → ℕ → ℕ → ℤ
+spare_at n rows supply bundles k set = left_at n rows supply bundles k set -ℤ sum_at (drop k rows) set
+
+-- tables of bidders and of a seller that are proper, and the sums of those of the bidders
+pub record HaveSums (n : ℕ) (tables : Tables) : Type 0 where
+  pub few : length tables.bidders.items ≤ 256
+  pub proper : (k : ℕ) → k < length tables.bidders.items → IsProper n (get_or tables.bidders.items k [])
+  pub seller : IsProper n tables.seller
+  pub size : length tables.sum ≡ 2 ^ suc n
+  pub sums : (set : ℕ) → set < 2 ^ suc n → number_of tables.sum set ≡ sum_at tables.bidders.items set
+
+-- the tables of all members at prices, and the sums of those of the bidders
+pub record AreTablesAt (a : AuctionText) (prices : List ℤ) (tables : Tables) : Type 0 where
+  pub bidders : AreTablesOfFirst a prices (length a.bidders) tables.bidders.items
+  pub seller : IsTableOf (length a.goods) (seller_gain a.supply a.reserve) prices tables.seller
+  pub sums : HaveSums (length a.goods) tables
+
+-- numbers of the sets of n goods and the null choice, that lie from -m to m
+abbrev pub LieWithin : ℕ → ℕ → List ℤ → Type 0
+LieWithin n m numbers = (set : ℕ) → set < 2 ^ suc n → Lies m (number_of numbers set)
+
+-- the table of the bidder at a turn, and what must be given to it at each set
+pub record IsTurn (a : AuctionText) (answer : Answer) (turn : ℕ) (table floor : List ℤ) : Type 0 where
+  pub own : table ≡ get_or (tables_at (utilities_of a.bidders) a.supply a.reserve answer.prices.items (order_of a)) turn []
+  pub needed : (set : ℕ) → set < 2 ^ suc (length a.goods) → number_of floor set
+      ≡ floor_at (length a.goods) (tables_at (utilities_of a.bidders) a.supply a.reserve answer.prices.items (order_of a)) a.supply (in_order (order_of a) (bundles_of answer)) turn set
+
+-- the pair of the bidder at a turn and of a good is tight
+abbrev pub HasTightPair : AuctionText → Answer → ℕ → ℕ → Type 0
+HasTightPair a answer turn j =
+    let pair = pair_of (length a.goods) answer (place_at (order_of a) turn) j in
+    IsTightPair (utilities_of a.bidders) a.supply a.reserve answer.prices.items (order_of a) (bundles_of answer) turn j pair.upper pair.lower

@@ -1,0 +1,173 @@
+// The tests of the pairs of sets, for each bidder and each good in turn.
+ghost use Rattle.std.specs.Prelude.{◌≡◌, ◌<◌, ◌≤◌, ◌^◌, ◌+◌, ◌∷◌, [], ◌-ℤ◌, ◌+ℤ◌, ℕ, suc, All, length, IfErr, IfOk};
+ghost use Rattle.mix_num.specs.Ranges.{Lies};
+ghost use Rattle.mix_num.specs.Sellers.{AreAmounts, IsAmount};
+ghost use Rattle.mix_num.specs.Sums.{total};
+ghost use Rattle.mix_num.specs.Tables.{IsProper, number_of, share_in};
+ghost use Rattle.mix_text.specs.AuctionTexts.{auction_text};
+ghost use Rattle.mix_answer.specs.Shapes.{HasAnswerShape};
+ghost use Rattle.mix_answer.specs.Truths.{HaveTights};
+ghost use Rattle.mix_answer.specs.declared.outcome.Outcome.TheVariants.{Cleared};
+ghost use Rattle.mix_check.specs.Orders.{IsFirstReason, NoneBefore};
+ghost use Rattle.mix_check.specs.Tests.{AreTablesAt, HasTightPair, HaveSums, IsTurn, LieWithin, rows_of, spare_at};
+
+use crate::reason::Reason;
+use crate::tables::Tables;
+use mix_answer::Answer;
+use mix_demand::Rho;
+use mix_num::{Bundle, Set, pair_number, sum_over};
+use mix_text::Auction;
+
+/// For each bidder and each good the two sets are a pair, and its number is what the bidder has of the good.
+pub fn tight(auction: &Auction, answer: &Answer, tables: &Tables) -> Result<(), Reason>
+    requires shape { HasAnswerShape (auction_text auction.now) answer.now }
+    requires tables { AreTablesAt (auction_text auction.now) answer.now.prices.items tables.now }
+    requires before { NoneBefore (auction_text auction.now) (Cleared answer.now) (9 ∷ []) }
+    ensures passed { IfOk result (λ done. HaveTights (auction_text auction.now) answer.now) }
+    ensures reason { IfErr result (IsFirstReason (auction_text auction.now) (Cleared answer.now)) }
+{
+    let mut spare = [0; 512];
+    start(&mut spare, &auction.supply, tables);
+    for bidder in 0..auction.count() {
+        let table = &tables.bidders[bidder];
+        give_back(&mut spare, table);
+        tight_of_bidder(auction, answer, table, bidder, &spare)?;
+        take(&mut spare, table, &answer.shares.get(bidder).bundle);
+    }
+    Ok(())
+}
+
+/// The same of one bidder, from what must be given to it at each set.
+fn tight_of_bidder(
+    auction: &Auction,
+    answer: &Answer,
+    table: &Rho,
+    bidder: usize,
+    floor: &[i64],
+) -> Result<(), Reason>
+    requires shape { HasAnswerShape (auction_text auction.now) answer.now }
+    requires bidder { bidder < length auction.now.bidders }
+    requires turn { IsTurn (auction_text auction.now) answer.now bidder table.now floor.now }
+    requires sizes { (length table.now ≡ 2 ^ suc (length auction.now.goods)) × (length floor.now ≡ 512) }
+    requires range { LieWithin (length auction.now.goods) 4000000000000 floor.now }
+    requires before { NoneBefore (auction_text auction.now) (Cleared answer.now) (9 ∷ bidder ∷ []) }
+    ensures passed { IfOk result (λ done. (j : ℕ) → j < length auction.now.goods → HasTightPair (auction_text auction.now) answer.now bidder j) }
+    ensures next { IfOk result (λ done. NoneBefore (auction_text auction.now) (Cleared answer.now) (9 ∷ suc bidder ∷ [])) }
+    ensures reason { IfErr result (IsFirstReason (auction_text auction.now) (Cleared answer.now)) }
+{
+    for good in 0..answer.prices.len() {
+        tight_of_good(auction, answer, table, bidder, good, floor)?;
+    }
+    Ok(())
+}
+
+/// The same of one bidder and one good.
+fn tight_of_good(
+    auction: &Auction,
+    answer: &Answer,
+    table: &Rho,
+    bidder: usize,
+    good: usize,
+    floor: &[i64],
+) -> Result<(), Reason>
+    requires shape { HasAnswerShape (auction_text auction.now) answer.now }
+    requires bidder { bidder < length auction.now.bidders }
+    requires good { good < length auction.now.goods }
+    requires turn { IsTurn (auction_text auction.now) answer.now bidder table.now floor.now }
+    requires sizes { (length table.now ≡ 2 ^ suc (length auction.now.goods)) × (length floor.now ≡ 512) }
+    requires range { LieWithin (length auction.now.goods) 4000000000000 floor.now }
+    requires before { NoneBefore (auction_text auction.now) (Cleared answer.now) (9 ∷ bidder ∷ good ∷ []) }
+    ensures passed { IfOk result (λ done. HasTightPair (auction_text auction.now) answer.now bidder good) }
+    ensures next { IfOk result (λ done. NoneBefore (auction_text auction.now) (Cleared answer.now) (9 ∷ bidder ∷ suc good ∷ [])) }
+    ensures reason { IfErr result (IsFirstReason (auction_text auction.now) (Cleared answer.now)) }
+{
+    let goods = answer.prices.len();
+    let pair = answer.tights.get(bidder * goods + good);
+    if !pair.is_pair(good, goods) {
+        return Err(Reason::Pair { bidder, good });
+    }
+    let bundle = &answer.shares.get(bidder).bundle;
+    let number = table.at(pair.upper);
+    let bound = pair_number(
+        number,
+        floor[pair.lower.bits() as usize],
+        bundle,
+        good,
+        pair,
+    );
+    if bound != bundle[good] {
+        return Err(Reason::Tight {
+            bidder,
+            good,
+            bound,
+        });
+    }
+    Ok(())
+}
+
+/// Writes, for each set, what the supply has there less all that the members can take.
+fn start(spare: &mut [i64], supply: &Bundle, tables: &Tables)
+    requires size { length spare.old ≡ 512 }
+    requires few { length supply.now.items ≤ 8 }
+    requires supply { All IsAmount supply.now.items }
+    requires tables { HaveSums (length supply.now.items) tables.now }
+    ensures size { length spare.new ≡ 512 }
+    ensures value { (set : ℕ) → set < 2 ^ suc (length supply.now.items) → number_of spare.new set ≡ spare_at (length supply.now.items) (rows_of tables.now) supply.now.items [] 0 set }
+    ensures range { LieWithin (length supply.now.items) 9000000000 spare.new }
+{
+    let whole = Set::whole(supply.len());
+    let null = null_of(supply, tables.sum.at(whole) + tables.seller.at(whole));
+    for bits in 0..sets_of(supply.len()) {
+        let set = Set::from_bits(bits);
+        spare[bits as usize] = sum_over(supply, null, set)
+            - (tables.sum.at(set) + tables.seller.at(set));
+    }
+}
+
+/// Adds what a bidder can take, set by set.
+fn give_back(spare: &mut [i64], table: &Rho)
+    requires size { length table.now ≤ length spare.old }
+    requires range { (set : ℕ) → set < length table.now → Lies 4000000000000 (number_of spare.old set) }
+    ensures size { length spare.new ≡ length spare.old }
+    ensures value { (set : ℕ) → set < length table.now → number_of spare.new set ≡ number_of spare.old set +ℤ number_of table.now set }
+{
+    for (set, number) in table.numbers().iter().enumerate() {
+        spare[set] += *number;
+    }
+}
+
+/// Takes away what a bidder gets, set by set.
+fn take(spare: &mut [i64], table: &Rho, bundle: &Bundle)
+    requires few { length bundle.now.items ≤ 8 }
+    requires size { length spare.old ≡ 512 }
+    requires proper { IsProper (length bundle.now.items) table.now }
+    requires bundle { All IsAmount bundle.now.items }
+    requires range { LieWithin (length bundle.now.items) 4000000000000 spare.old }
+    ensures size { length spare.new ≡ 512 }
+    ensures value { (set : ℕ) → set < 2 ^ suc (length bundle.now.items) → number_of spare.new set ≡ number_of spare.old set -ℤ share_in (length bundle.now.items) table.now bundle.now.items set }
+    ensures near { (set : ℕ) → set < 2 ^ suc (length bundle.now.items) → Lies 140000000 (number_of spare.old set -ℤ number_of spare.new set) }
+{
+    let null = null_of(bundle, table.at(Set::whole(bundle.len())));
+    for bits in 0..sets_of(bundle.len()) {
+        spare[bits as usize] -= sum_over(bundle, null, Set::from_bits(bits));
+    }
+}
+
+/// The null share of a bundle that fills up this number.
+fn null_of(bundle: &Bundle, number: i64) -> i64
+    requires bundle { All IsAmount bundle.now.items }
+    requires number { Lies 4500000000 number }
+    ensures value { result ≡ number -ℤ total bundle.now.items }
+    ensures range { (m : ℕ) → Lies m number → Lies (m + 64000000) result }
+{
+    number - sum_over(bundle, 0, Set::goods(bundle.len()))
+}
+
+/// How many sets `n` goods and the null choice have.
+fn sets_of(n: usize) -> u16
+    requires { n ≤ 8 }
+    ensures value { result ≡ 2 ^ suc n }
+    ensures range { result ≤ 512 }
+{
+    2 << n
+}

@@ -1,0 +1,215 @@
+// What the checker says of outcomes, true and forged, where memory is ample.
+use crate::{Reason, Verdict, check};
+use mix_answer::read_outcome;
+use mix_num::Set;
+use mix_text::read_auction;
+use std::alloc::Global;
+use std::test::Fail;
+
+// X bids for the goods as substitutes, Y for the first alone.
+const SUBSTITUTES: &[u8] =
+    b"mix,1\ngoods,A,B\nsupply,1,1\nreserve,0,0\nbid,X,1,4,-\nbid,X,1,-,4\nbid,X,1,6,6\nbid,X,-1,4,4\nbid,Y,1,5,-\nend\n";
+
+// The same with a reserve above what X bids.
+const DEARER: &[u8] =
+    b"mix,1\ngoods,A,B\nsupply,1,1\nreserve,0,7\nbid,X,1,4,-\nbid,X,1,-,4\nbid,X,1,6,6\nbid,X,-1,4,4\nbid,Y,1,5,-\nend\n";
+
+// X bids for either good alone, and takes back a bid for both.
+const TAKEN_BACK: &[u8] =
+    b"mix,1\ngoods,A,B\nsupply,1,1\nreserve,0,0\nbid,X,1,6,-\nbid,X,1,-,6\nbid,X,-1,6,6\nend\n";
+
+// And so does Z after X.
+const TWICE: &[u8] =
+    b"mix,1\ngoods,A,B\nsupply,1,1\nreserve,0,0\nbid,X,1,6,-\nbid,X,1,-,6\nbid,X,-1,6,6\nbid,Z,1,6,-\nbid,Z,1,-,6\nbid,Z,-1,6,6\nend\n";
+
+// The verdict on the outcome of these lines, written after an auction.
+fn verdict(alloc: Global, auction: &[u8], lines: [&[u8]; 7]) -> Result<Verdict, Fail> {
+    let mut text = auction.to_vec(alloc)?;
+    for line in lines {
+        text.extend_from_slice(line)?;
+    }
+    if text.len() > 4_194_304 {
+        return Err("a shorter text".into());
+    }
+    let (auction, rest) = read_auction(alloc, &text)?;
+    let outcome = read_outcome(alloc, &auction, &rest)
+        .ok()
+        .ok_or("an outcome")?;
+    Ok(check(alloc, &auction, &outcome).ok().ok_or("memory")?)
+}
+
+#[test]
+fn answers(rt: HostRuntime) -> Result<(), Fail> {
+    let alloc = rt.alloc();
+    let head = b"outcome,1\ncleared\n";
+    let price = b"price,4,0\n";
+    let x = b"share,X,0,1,0\n";
+    let y = b"share,Y,1,0,4\n";
+    let back = b"return,0,0\n";
+    let tights = b"tight,X,A,3,1\ntight,X,B,4,0\ntight,Y,A,2,0\ntight,Y,B,4,0\n";
+    let end = b"end\n";
+    let cases: [(&[u8], [&[u8]; 7], Verdict); 12] = [
+        (
+            SUBSTITUTES,
+            [head, price, x, y, back, tights, end],
+            Verdict::Yes,
+        ),
+        (
+            DEARER,
+            [head, price, x, y, back, tights, end],
+            Verdict::No(Reason::Floor { good: 1 }),
+        ),
+        (
+            SUBSTITUTES,
+            [head, price, b"share,X,1,1,4\n", y, back, tights, end],
+            Verdict::No(Reason::Sum { good: 0, sum: 2 }),
+        ),
+        (
+            SUBSTITUTES,
+            [head, price, x, y, b"return,0,1\n", tights, end],
+            Verdict::No(Reason::Sum { good: 1, sum: 2 }),
+        ),
+        (
+            SUBSTITUTES,
+            [
+                head,
+                price,
+                x,
+                b"share,Y,0,0,0\n",
+                b"return,1,0\n",
+                tights,
+                end,
+            ],
+            Verdict::No(Reason::Return { good: 0 }),
+        ),
+        (
+            SUBSTITUTES,
+            [head, b"price,0,0\n", x, y, back, tights, end],
+            Verdict::No(Reason::Demand {
+                bidder: 0,
+                set: Set::from_bits(1),
+            }),
+        ),
+        (
+            SUBSTITUTES,
+            [
+                head,
+                price,
+                b"share,X,1,0,4\n",
+                b"share,Y,0,1,0\n",
+                back,
+                tights,
+                end,
+            ],
+            Verdict::No(Reason::Demand {
+                bidder: 0,
+                set: Set::from_bits(3),
+            }),
+        ),
+        (
+            SUBSTITUTES,
+            [
+                head,
+                b"price,5,0\n",
+                x,
+                b"share,Y,1,0,5\n",
+                back,
+                tights,
+                end,
+            ],
+            Verdict::No(Reason::Lower {
+                set: Set::from_bits(2),
+            }),
+        ),
+        (
+            SUBSTITUTES,
+            [head, b"price,4,1\n", x, y, back, tights, end],
+            Verdict::No(Reason::Lower {
+                set: Set::from_bits(4),
+            }),
+        ),
+        (
+            SUBSTITUTES,
+            [head, price, x, b"share,Y,1,0,5\n", back, tights, end],
+            Verdict::No(Reason::Pay {
+                bidder: 1,
+                amount: 4,
+            }),
+        ),
+        (
+            SUBSTITUTES,
+            [
+                head,
+                price,
+                x,
+                y,
+                back,
+                b"tight,X,A,3,0\ntight,X,B,4,0\ntight,Y,A,2,0\ntight,Y,B,4,0\n",
+                end,
+            ],
+            Verdict::No(Reason::Pair { bidder: 0, good: 0 }),
+        ),
+        (
+            SUBSTITUTES,
+            [
+                head,
+                price,
+                x,
+                y,
+                back,
+                b"tight,X,A,2,0\ntight,X,B,4,0\ntight,Y,A,2,0\ntight,Y,B,4,0\n",
+                end,
+            ],
+            Verdict::No(Reason::Tight {
+                bidder: 0,
+                good: 0,
+                bound: 1,
+            }),
+        ),
+    ];
+    for (auction, lines, expected) in cases {
+        assert_eq!(rt; verdict(alloc, auction, lines)?, expected);
+    }
+    Ok(())
+}
+
+#[test]
+fn refusals(rt: HostRuntime) -> Result<(), Fail> {
+    let alloc = rt.alloc();
+    let cases: [(&[u8], &[u8], Verdict); 4] = [
+        (TAKEN_BACK, b"refused,X,A,B,5,5,-1\n", Verdict::Yes),
+        (
+            TAKEN_BACK,
+            b"refused,X,A,B,6,6,-1\n",
+            Verdict::No(Reason::Facet { weight: 0 }),
+        ),
+        (TWICE, b"refused,X,A,B,5,5,-1\n", Verdict::Yes),
+        (
+            TWICE,
+            b"refused,Z,A,B,5,5,-1\n",
+            Verdict::No(Reason::Earlier { bidder: 0 }),
+        ),
+    ];
+    for (auction, line, expected) in cases {
+        let found = verdict(
+            alloc,
+            auction,
+            [b"outcome,1\n", line, b"", b"", b"", b"", b"end\n"],
+        )?;
+        assert_eq!(rt; found, expected);
+    }
+    let cleared: [&[u8]; 7] = [
+        b"outcome,1\ncleared\n",
+        b"price,0,0\n",
+        b"share,X,0,0,0\n",
+        b"",
+        b"return,1,1\n",
+        b"tight,X,A,2,0\ntight,X,B,4,0\n",
+        b"end\n",
+    ];
+    assert_eq!(rt;
+        verdict(alloc, TAKEN_BACK, cleared)?,
+        Verdict::No(Reason::Invalid { bidder: 0 })
+    );
+    Ok(())
+}
