@@ -1,5 +1,9 @@
+mod AuctionTrails
 mod Causes
+mod NamedReasons
 mod PrintableWords
 mod PrintedRows
 mod ReadPrices
+mod SoldUnits
 mod Taken
+mod TrialOutputs

@@ -5,7 +5,7 @@ use Rattle.std.proofs.lemmas.Int.{ints}
 use Rattle.std.proofs.lemmas.List.Elements.{All-weaker}
 use Rattle.mix_num.specs.Ranges.{ArePrices, Lies}
 use Rattle.mix_text.specs.Rows.{RestText, RowText}
-use Rattle.mix_text.specs.Reading.{◌>>=◌, nothing_after, numbered_as, price_in, price_of, prices_of}
+use Rattle.mix_text.specs.Reading.{◌>>=◌, nothing_after, numbered_as, price_in, prices_after, prices_of}
 use Rattle.mix_text.specs.declared.faults.Code.{Code}
 use Rattle.mix_text.proofs.Sound.{numbers_ok, then_ok}
 
@@ -19,7 +19,7 @@ row_ok n fields xs e =
     (read.0, All-weaker (Lies 2000000) (Lies 4000000) (λ x lies. (omega (arith, ints, lies.0), omega (arith, ints, lies.1))) xs read.1)
 
 -- the prices of the one row after an auction are prices of its goods
-pub prices_ok : (n : ℕ) (rest : RestText) (xs : List ℤ) → price_of n rest ≡ Ok xs → ArePrices n xs
+pub prices_ok : (n : ℕ) (rest : RestText) (xs : List ℤ) → prices_after n rest ≡ Ok xs → ArePrices n xs
 prices_ok n rest xs e = go rest.rows e
   where
     go : (rows : List RowText) → price_in n rest.next rows ≡ Ok xs → ArePrices n xs

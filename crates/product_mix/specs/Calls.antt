@@ -1,31 +1,39 @@
 -- What a call of the program owes: which output is wanted of the words and the text, and how far it is written.
-use Rattle.std.specs.Prelude.{◌≡◌, ◌≢◌, ◌<◌, ◌≤◌, ◌⊎◌, ℕ, List, length, Option, Ok, Err, IfNone, IfSome, IsSomeAnd}
+use Rattle.std.specs.Prelude.{◌≡◌, ◌≢◌, ◌<◌, ◌≤◌, ◌⊎◌, ℕ, List, length, Option, Some, None, Ok, Err, IfNone, IfSome}
 use Rattle.std.specs.Io.KnownBytes.{Appends, Consumes}
 use Rattle.mix_io.specs.Given.{AppendsPrefix}
-use Rattle.mix_text.specs.declared.faults.Fault.{Fault}
-use Rattle.mix_text.specs.declared.faults.Limit.{Limit}
 use Rattle.mix_text.specs.declared.faults.TextError.{TextError}
-use Rattle.mix_text.specs.declared.faults.TextError.TheVariants as error
+use Rattle.product_mix.specs.Checkings.{IsCheckingOf, auction_and_outcome}
 use Rattle.product_mix.specs.Outputs.{Output, most_bytes, refusal, too_long, unknown_words, unread}
 use Rattle.product_mix.specs.Pricings.{IsPricingOf}
 use Rattle.product_mix.specs.Readings.{auction_alone}
-use Rattle.product_mix.specs.Refusals.{HasConvexLists, HasNonconvexList}
+use Rattle.product_mix.specs.Solvings.{IsSolvingOf}
+use Rattle.product_mix.specs.Trailings.{IsTrailingOf}
+use Rattle.product_mix.specs.Trialings.{IsTrialing}
 use Rattle.product_mix.specs.Utilities.{utility_text}
 use Rattle.product_mix.specs.Validities.{IsValidityOf}
 use Rattle.product_mix.specs.declared.words.Command.{Command}
-use Rattle.product_mix.specs.declared.words.Command.TheVariants.{Prices, Utility, Validate}
+use Rattle.product_mix.specs.declared.words.Command.TheVariants.{Check, Prices, Solve, Trail, Utility, Validate}
+use Rattle.product_mix.specs.declared.words.Task.{Task}
+use Rattle.product_mix.specs.declared.words.Task.TheVariants.{OnText, Trial}
 
 -- a text isn't as the command wants it, and this is wrong first
 abbrev pub IsWrong : Command → List ℕ → TextError → Type 0
 IsWrong Utility text e = utility_text text ≡ Err e
 IsWrong Validate text e = auction_alone text ≡ Err e
 IsWrong Prices text e = auction_alone text ≡ Err e
+IsWrong Trail text e = auction_alone text ≡ Err e
+IsWrong Solve text e = auction_alone text ≡ Err e
+IsWrong Check text e = auction_and_outcome text ≡ Err e
 
 -- a text is as the command wants it, and this comes of it
 abbrev pub IsDone : Command → List ℕ → Output → Type 0
 IsDone Utility text output = (bytes : List ℕ) × (utility_text text ≡ Ok bytes) × (output ≡ record { status = 0; bytes = bytes })
 IsDone Validate text output = IsValidityOf text output
 IsDone Prices text output = IsPricingOf text output
+IsDone Trail text output = IsTrailingOf text output
+IsDone Solve text output = IsSolvingOf text output
+IsDone Check text output = IsCheckingOf text output
 
 -- a text is refused, and this comes of it: what is wrong first, whatever the command
 abbrev pub IsRefused : Command → List ℕ → Output → Type 0
@@ -37,10 +45,20 @@ IsOutput command text output =
     ((most_bytes < length text) × (output ≡ too_long))
     ⊎ ((length text ≤ most_bytes) × (IsRefused command text output ⊎ IsDone command text output))
 
--- the output that is wanted: of words that call a command what the text gives, where it is told, or that it couldn't be read
-pub record IsWanted (command : Option Command) (text : Option (List ℕ)) (read_failed : Type 0) (output : Output) : Type 0 where
-  pub unknown : IfNone command (output ≡ unknown_words)
-  pub known : IfSome command (λ c. (read_failed × (output ≡ unread)) ⊎ IfSome text (λ bytes. IsOutput c bytes output))
+-- the bytes are those that the source tells, if it tells any
+abbrev pub AreTold : Option (List ℕ) → List ℕ → Type 0
+AreTold text bytes = IfSome text (λ told. bytes ≡ told)
+
+-- the output of a task: of a command on a text what some bytes give, the told ones where the source tells them, or that the input couldn't be
+-- read; of a trial auction its summary
+abbrev pub IsWantedOf : Task → Option (List ℕ) → Type 0 → Output → Type 0
+IsWantedOf (OnText command) text read_failed output = (read_failed × (output ≡ unread)) ⊎ ((bytes : List ℕ) × AreTold text bytes × IsOutput command bytes output)
+IsWantedOf (Trial number) text read_failed output = IsTrialing number output
+
+-- the output that is wanted of words that ask for a task, or for nothing that is known
+pub record IsWanted (task : Option Task) (text : Option (List ℕ)) (read_failed : Type 0) (output : Output) : Type 0 where
+  pub unknown : IfNone task (output ≡ unknown_words)
+  pub known : IfSome task (λ t. IsWantedOf t text read_failed output)
 
 -- the whole output was appended to the bytes taken, and its status answered; or a prefix of it, and 6, where the sink failed
 pub record IsWritten (output : Output) (write_failed : Type 0) (taken now : Option (List ℕ)) (status : ℕ) : Type 0 where
@@ -51,39 +69,21 @@ pub record IsWritten (output : Output) (write_failed : Type 0) (taken now : Opti
 abbrev pub WritesFor : Command → List ℕ → Type 0 → Option (List ℕ) → Option (List ℕ) → ℕ → Type 0
 WritesFor command text write_failed taken now status = (output : Output) × IsOutput command text output × IsWritten output write_failed taken now status
 
+-- the summary of the trial auction of a number was written
+abbrev pub WritesTrial : ℕ → Type 0 → Option (List ℕ) → Option (List ℕ) → ℕ → Type 0
+WritesTrial number write_failed taken now status = (output : Output) × IsTrialing number output × IsWritten output write_failed taken now status
+
+-- the words ask for a command on the text of the input
+abbrev pub Reads : Option Task → Type 0
+Reads None = ⊥
+Reads (Some (OnText command)) = Unit {0}
+Reads (Some (Trial number)) = ⊥
+
 -- an output that is wanted was written
-pub record IsAnswered (command : Option Command) (text : Option (List ℕ)) (read_failed write_failed : Type 0) (taken now : Option (List ℕ)) (status : ℕ) : Type 0 where
+pub record IsAnswered (task : Option Task) (text : Option (List ℕ)) (read_failed write_failed : Type 0) (taken now : Option (List ℕ)) (status : ℕ) : Type 0 where
   pub output : Output
-  pub wanted : IsWanted command text read_failed output
+  pub wanted : IsWanted task text read_failed output
   pub written : IsWritten output write_failed taken now status
-
--- the words call a command, and the text, where it is told, has a fault before it passes a limit
-abbrev pub HasFault : Option Command → Option (List ℕ) → Type 0
-HasFault command text = IsSomeAnd command (λ c. IfSome text (λ bytes. (fault : Fault) × IsWrong c bytes (error.Fault fault)))
-
--- the words call a command, and the text, where it is told, has too many bytes or passes a limit before it has a fault
-abbrev pub HasLimit : Option Command → Option (List ℕ) → Type 0
-HasLimit command text = IsSomeAnd command (λ c. IfSome text (λ bytes. (most_bytes < length bytes) ⊎ ((limit : Limit) × IsWrong c bytes (error.Limit limit))))
-
--- a text is as the command wants it, but some bidder's list isn't convex, and the command needs convex lists
-abbrev pub IsUnmet : Command → List ℕ → Type 0
-IsUnmet Utility text = ⊥
-IsUnmet Validate text = HasNonconvexList text
-IsUnmet Prices text = HasNonconvexList text
-
--- the words call a command that needs convex lists, and in the text, where it is told, some bidder's list isn't convex
-abbrev pub HasNonconvex : Option Command → Option (List ℕ) → Type 0
-HasNonconvex command text = IsSomeAnd command (λ c. IfSome text (λ bytes. IsUnmet c bytes))
-
--- where the command needs convex lists, a text is as it wants it, and each bidder's list is convex
-abbrev pub IsMet : Command → List ℕ → Type 0
-IsMet Utility text = Unit {0}
-IsMet Validate text = HasConvexLists text
-IsMet Prices text = HasConvexLists text
-
--- the words call a command, and where it needs convex lists, each bidder's list in the text, where it is told, is convex
-abbrev pub HasConvex : Option Command → Option (List ℕ) → Type 0
-HasConvex command text = IsSomeAnd command (λ c. IfSome text (λ bytes. IsMet c bytes))
 
 -- at most n bytes were taken from the front of those that are left, where they are told
 abbrev pub TakesAtMost : ℕ → Option (List ℕ) → Option (List ℕ) → Type 0

@@ -1,9 +1,14 @@
 pub mod Words
 pub mod Outputs
-pub mod Answers
+pub mod Replies
 pub mod Readings
 pub mod Utilities
 pub mod Refusals
 pub mod Validities
 pub mod Pricings
+pub mod Trailings
+pub mod Solvings
+pub mod Trialings
+pub mod Checkings
 pub mod Calls
+pub mod Causes

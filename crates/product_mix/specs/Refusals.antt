@@ -6,7 +6,7 @@ use Rattle.mix_text.specs.Bidders.{list_at}
 use Rattle.mix_answer.specs.Outcomes.{outcome_text}
 use Rattle.mix_answer.specs.declared.outcome.Outcome.TheVariants.{Refused}
 use Rattle.mix_answer.specs.declared.refusal.Refusal.{Refusal}
-use Rattle.mix_solve.specs.Refusals.{AreConvex, IsTrueRefusal}
+use Rattle.mix_answer.specs.Refusals.{AreConvex, IsTrueRefusal}
 use Rattle.product_mix.specs.Outputs.{Output}
 use Rattle.product_mix.specs.Readings.{auction_alone}
 

@@ -5,7 +5,7 @@ use Rattle.mix_bids.specs.Bids.{Book, total_weight}
 use Rattle.mix_text.specs.Auctions.{AuctionText}
 use Rattle.mix_text.specs.Bidders.{Named}
 use Rattle.mix_text.specs.Pages.{line_of, printed}
-use Rattle.mix_solve.specs.Refusals.{AreConvex}
+use Rattle.mix_answer.specs.Refusals.{AreConvex}
 use Rattle.product_mix.specs.Outputs.{Output}
 use Rattle.product_mix.specs.Readings.{auction_alone}
 use Rattle.product_mix.specs.Refusals.{IsRefusal}

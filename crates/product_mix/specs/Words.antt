@@ -1,12 +1,17 @@
 -- The words that the program is called with, and those that it prints for faults and limits.
-use Rattle.std.specs.Prelude.{◌==◌, ◌&&◌, Bool, ℕ, List, [], length, slice_index_or, if◌then◌else◌, Option, Some, None, codes}
+use Rattle.std.specs.Prelude.{◌==◌, ◌&&◌, Bool, ℕ, ℤ, pos, List, [], ◌∷◌, length, slice_index_or, if◌then◌else◌, Option, Some, None, Result, Ok, Err, codes}
+use Rattle.std.specs.Int.RustNames.{unsigned_abs}
+use Rattle.std.specs.Option.{option_map}
 use Rattle.std.specs.Str.{bytes_eq}
 use Rattle.mix_text.specs.declared.faults.Code.{Code}
 use Rattle.mix_text.specs.declared.faults.Code.TheVariants as code
 use Rattle.mix_text.specs.declared.faults.What.{What}
 use Rattle.mix_text.specs.declared.faults.What.TheVariants as what
+use Rattle.mix_text.specs.Spelling.{between, spelled_number}
 use Rattle.product_mix.specs.declared.words.Command.{Command}
-use Rattle.product_mix.specs.declared.words.Command.TheVariants.{Prices, Utility, Validate}
+use Rattle.product_mix.specs.declared.words.Command.TheVariants.{Check, Prices, Solve, Trail, Utility, Validate}
+use Rattle.product_mix.specs.declared.words.Task.{Task}
+use Rattle.product_mix.specs.declared.words.Task.TheVariants.{OnText, Trial}
 
 -- whether a word is the only one
 abbrev pub are_alone : List (List ℕ) → List ℕ → Bool
@@ -18,7 +23,26 @@ command_of words =
     if are_alone words (codes "utility") then Some Utility
     else if are_alone words (codes "validate") then Some Validate
     else if are_alone words (codes "prices") then Some Prices
+    else if are_alone words (codes "trail") then Some Trail
+    else if are_alone words (codes "solve") then Some Solve
+    else if are_alone words (codes "check") then Some Check
     else None
+
+-- a trial auction, where a number was read, which has no sign
+abbrev pub trial_read : Result ℤ Code → Option Task
+trial_read (Ok number) = Some (Trial (unsigned_abs number))
+trial_read (Err c) = None
+
+-- the trial auction that two words ask for: `trial`, and the spelling of a number from 0 to 4,294,967,295
+abbrev pub trial_asked : List ℕ → List ℕ → Option Task
+trial_asked first second = if bytes_eq first (codes "trial") then trial_read (between (pos 0) (pos 4294967295) (spelled_number second)) else None
+
+-- what the words ask for, if it is known
+abbrev pub task_of : List (List ℕ) → Option Task
+task_of [] = None
+task_of (only ∷ []) = option_map OnText (command_of (only ∷ []))
+task_of (first ∷ second ∷ []) = trial_asked first second
+task_of (first ∷ second ∷ third ∷ rest) = None
 
 -- the word for what is wrong with a row
 abbrev pub code_word : Code → List ℕ

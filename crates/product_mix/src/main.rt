@@ -2,18 +2,29 @@
 #![tactic(auto)]
 
 mod alone;
-mod answer;
+mod checking;
 mod command;
+#[cfg(test)]
+mod outcome_tests;
 mod prices;
+mod reasons;
 mod refusal;
+mod reply;
 mod rows;
+#[cfg(test)]
+mod size_tests;
+mod solution;
 #[cfg(test)]
 mod table_tests;
 #[cfg(test)]
 mod tests;
+mod trail;
+mod trial;
 mod utility;
 mod validity;
 mod words;
+
+ghost use Rattle.std.specs.Prelude.{◌≡◌, drop};
 
 use mix_io::{StdSink, StdSource};
 use std::env;
@@ -23,19 +34,30 @@ use std::process::ExitCode;
 const NO_WORDS: u8 = 8;
 
 fn main(rt: HostRuntime) -> ExitCode {
-    let Ok(words) = words_after_the_name(&rt) else {
+    let Ok(args) = arguments(&rt) else {
         return ExitCode::from(NO_WORDS);
     };
     let mut input = StdSource::new(rt.stdin());
     let mut output = StdSink::new(rt.stdout());
-    ExitCode::from(command::run(rt.alloc(), &words, &mut input, &mut output))
+    let status = command::run(rt.alloc(), words_of(&args), &mut input, &mut output);
+    ExitCode::from(status)
+}
+
+// All arguments of the program, its name first.
+fn arguments(rt: &HostRuntime) -> std::io::Result<Vec<String>> {
+    let mut args = Vec::new(rt.alloc());
+    for arg in env::args(rt)? {
+        args.push(arg)?;
+    }
+    Ok(args)
 }
 
 // The words that follow the program's name.
-fn words_after_the_name(rt: &HostRuntime) -> std::io::Result<Vec<String>> {
-    let mut words = Vec::new(rt.alloc());
-    for word in env::args(rt)?.skip(1) {
-        words.push(word)?;
+fn words_of(args: &[String]) -> &[String]
+    ensures { result.now ≡ drop 1 args.now }
+{
+    match args {
+        [_, words @ ..] => words,
+        [] => args,
     }
-    Ok(words)
 }

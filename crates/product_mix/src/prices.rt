@@ -2,13 +2,13 @@
 ghost use Rattle.std.specs.Prelude.{◌≡◌, ◌<◌, ◌≤◌, length, IfOk, IfErr};
 ghost use Rattle.mix_text.specs.AuctionTexts.{auction_text};
 ghost use Rattle.mix_text.specs.Reading.{IsFromText};
-ghost use Rattle.product_mix.specs.Answers.{output_of};
+ghost use Rattle.product_mix.specs.Replies.{output_of};
 ghost use Rattle.product_mix.specs.Pricings.{IsPricing, IsPricingOf, prices_page};
 ghost use Rattle.product_mix.specs.Readings.{auction_alone};
 
 use crate::alone::read_alone;
-use crate::answer::Answer;
 use crate::refusal::refused_bidder;
+use crate::reply::Reply;
 use crate::rows::{add_end, add_prices};
 use mix_num::{Memory, Prices};
 use mix_solve::{Admitted, admit, least_prices};
@@ -28,15 +28,15 @@ fn prices_text(alloc: Global, prices: &Prices) -> Result<Vec<u8>, Memory>
 }
 
 // The least prices of the auction where every list is convex, else a refusal.
-fn priced(alloc: Global, auction: &Auction) -> Result<Answer, Memory>
-    ensures output { IfOk result (λ answer. IsPricing (auction_text auction.now) (output_of answer)) }
-    ensures status { IfOk result (λ answer. answer.status < 2) }
+fn priced(alloc: Global, auction: &Auction) -> Result<Reply, Memory>
+    ensures output { IfOk result (λ reply. IsPricing (auction_text auction.now) (output_of reply)) }
+    ensures status { IfOk result (λ reply. reply.status < 2) }
 {
     match admit(alloc, auction)? {
         Admitted::Market(market) => {
             let prices = least_prices(&market);
             let bytes = prices_text(alloc, &prices)?;
-            Ok(Answer {
+            Ok(Reply {
                 status: PRICED,
                 bytes,
             })
@@ -50,15 +50,15 @@ fn priced(alloc: Global, auction: &Auction) -> Result<Answer, Memory>
 ///
 /// The error is what is wrong first with the text, which has at most 4,194,304 bytes; `Memory` may come in place of any
 /// answer.
-pub fn print_prices(alloc: Global, text: &[u8]) -> Result<Answer, TextError>
+pub fn print_prices(alloc: Global, text: &[u8]) -> Result<Reply, TextError>
     requires { length text.now ≤ 4194304 }
-    ensures done { IfOk result (λ answer. IsPricingOf text.now (output_of answer)) }
-    ensures status { IfOk result (λ answer. answer.status < 2) }
+    ensures done { IfOk result (λ reply. IsPricingOf text.now (output_of reply)) }
+    ensures status { IfOk result (λ reply. reply.status < 2) }
     ensures wrong { IfErr result (λ e. IsFromText (auction_alone text.now) e) }
 {
     let auction = read_alone(alloc, text)?;
     match priced(alloc, &auction) {
-        Ok(answer) => Ok(answer),
+        Ok(reply) => Ok(reply),
         Err(Memory) => Err(TextError::Memory),
     }
 }

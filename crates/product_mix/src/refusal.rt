@@ -1,14 +1,14 @@
-// The answers to a text that is refused, and to an auction with a bidder who is.
+// The replies to a text that is refused, and to an auction with a bidder who is.
 ghost use Rattle.std.specs.Prelude.{◌≡◌, ◌≢◌, ◌<◌, IfOk};
 ghost use Rattle.mix_text.specs.AuctionTexts.{auction_text};
 ghost use Rattle.mix_text.specs.Pages.{line_of};
 ghost use Rattle.mix_answer.specs.Shapes.{FitsAuction};
-ghost use Rattle.mix_solve.specs.Refusals.{IsTrueRefusal};
-ghost use Rattle.product_mix.specs.Answers.{output_of};
+ghost use Rattle.mix_answer.specs.Refusals.{IsTrueRefusal};
+ghost use Rattle.product_mix.specs.Replies.{output_of};
 ghost use Rattle.product_mix.specs.Outputs.{fault_row, limit_row, refusal};
 ghost use Rattle.product_mix.specs.Refusals.{IsRefusal};
 
-use crate::answer::Answer;
+use crate::reply::Reply;
 use crate::rows::{add_fault, add_limit};
 use mix_answer::{Outcome, Refusal, print_outcome};
 use mix_num::Memory;
@@ -39,23 +39,23 @@ fn limit_text(alloc: Global, limit: Limit) -> Result<Vec<u8>, Memory>
     page.finish()
 }
 
-/// The answer to a text with this wrong first: status 3 and the fault, or status 4 and the limit.
-pub fn refused(alloc: Global, error: TextError) -> Result<Answer, Memory>
-    ensures answer { IfOk result (λ answer. output_of answer ≡ refusal error) }
-    ensures status { IfOk result (λ answer. (answer.status < 5) × (answer.status ≢ 2)) }
-    ensures memory { IfOk result (λ answer. error ≢ TextError.Memory) }
+/// The reply to a text with this wrong first: status 3 and the fault, or status 4 and the limit.
+pub fn refused(alloc: Global, error: TextError) -> Result<Reply, Memory>
+    ensures output { IfOk result (λ reply. output_of reply ≡ refusal error) }
+    ensures status { IfOk result (λ reply. (reply.status < 5) × (reply.status ≢ 2)) }
+    ensures memory { IfOk result (λ reply. error ≢ TextError.Memory) }
 {
     match error {
         TextError::Fault(fault) => {
             let bytes = fault_text(alloc, fault)?;
-            Ok(Answer {
+            Ok(Reply {
                 status: FAULT,
                 bytes,
             })
         }
         TextError::Limit(limit) => {
             let bytes = limit_text(alloc, limit)?;
-            Ok(Answer {
+            Ok(Reply {
                 status: LIMIT,
                 bytes,
             })
@@ -64,15 +64,15 @@ pub fn refused(alloc: Global, error: TextError) -> Result<Answer, Memory>
     }
 }
 
-/// The answer to an auction with this refusal of a bidder, whose list isn't convex: status 1 and the outcome's text.
-pub fn refused_bidder(alloc: Global, auction: &Auction, refusal: Refusal) -> Result<Answer, Memory>
+/// The reply to an auction with this refusal of a bidder, whose list isn't convex: status 1 and the outcome's text.
+pub fn refused_bidder(alloc: Global, auction: &Auction, refusal: Refusal) -> Result<Reply, Memory>
     requires truth { IsTrueRefusal auction.now.bidders refusal }
     requires shape { FitsAuction (auction_text auction.now) refusal }
-    ensures answer { IfOk result (λ answer. IsRefusal (auction_text auction.now) (output_of answer)) }
-    ensures status { IfOk result (λ answer. answer.status ≡ 1) }
+    ensures output { IfOk result (λ reply. IsRefusal (auction_text auction.now) (output_of reply)) }
+    ensures status { IfOk result (λ reply. reply.status ≡ 1) }
 {
     let bytes = print_outcome(alloc, auction, &Outcome::Refused(refusal))?;
-    Ok(Answer {
+    Ok(Reply {
         status: INVALID,
         bytes,
     })

@@ -1,22 +1,25 @@
 // The rows that the program prints, one function for each kind.
 ghost use Rattle.std.specs.Prelude.{◌≡◌, ◌<◌, ◌++◌, ◌∷◌, [], codes, decimal, length, OnOk};
 ghost use Rattle.mix_num.specs.Ranges.{ArePrices};
-ghost use Rattle.mix_text.specs.Bidders.{bidder_at, name_at};
+ghost use Rattle.mix_text.specs.Bidders.{bidder_at};
 ghost use Rattle.mix_text.specs.Pages.{line_of};
 ghost use Rattle.product_mix.specs.Outputs.{fault_row, limit_row};
 ghost use Rattle.product_mix.specs.Pricings.{price_row};
+ghost use Rattle.product_mix.specs.Trailings.{step_row};
+ghost use Rattle.product_mix.specs.Trialings.{revenue_row, sold_row};
 ghost use Rattle.product_mix.specs.Utilities.{utility_row};
 ghost use Rattle.product_mix.specs.Validities.{valid_row};
 
 use crate::words::{word_of_code, word_of_limit};
 use itoa::Buffer;
-use mix_answer::add_numbers;
-use mix_num::{Memory, Prices};
+use mix_answer::add_bidder;
+use mix_descent::LongStep;
+use mix_num::{Bundle, Memory, Prices};
 use mix_text::{Auction, Fault, Limit, Page};
 
-// Adds the number of a row to the open row.
+/// Adds a number that has no sign to the open row.
 #[tactic(auto, using(mix_text::proofs::PrintedNumbers::decimal_printable))]
-fn add_row_number(page: &mut Page, number: u64) -> Result<(), Memory>
+pub fn add_number(page: &mut Page, number: u64) -> Result<(), Memory>
     ensures { OnOk result (page.new ≡ record page.old { fields = page.old.fields ++ decimal number ∷ [] }) }
 {
     let mut buffer = Buffer::new();
@@ -30,7 +33,7 @@ pub fn add_fault(page: &mut Page, fault: Fault) -> Result<(), Memory>
     ensures { OnOk result (page.new ≡ record { ended = page.old.ended ++ line_of (fault_row fault); fields = [] }) }
 {
     page.text(b"fault")?;
-    add_row_number(page, fault.at)?;
+    add_number(page, fault.at)?;
     page.text(word_of_code(fault.code))?;
     page.end_row()
 }
@@ -42,18 +45,9 @@ pub fn add_limit(page: &mut Page, limit: Limit) -> Result<(), Memory>
     ensures { OnOk result (page.new ≡ record { ended = page.old.ended ++ line_of (limit_row limit); fields = [] }) }
 {
     page.text(b"limit")?;
-    add_row_number(page, limit.at)?;
+    add_number(page, limit.at)?;
     page.text(word_of_limit(limit.what))?;
     page.end_row()
-}
-
-// Adds the name of the bidder at a place, from 0, to the open row.
-fn add_name(page: &mut Page, auction: &Auction, k: usize) -> Result<(), Memory>
-    requires { k < length auction.now.bidders }
-    ensures { OnOk result (page.new ≡ record page.old { fields = page.old.fields ++ name_at auction.now.bidders k ∷ [] }) }
-{
-    let (name, _) = auction.bidder(k);
-    page.text(name.as_str().as_bytes())
 }
 
 /// Adds the row of the indirect utility of the bidder at a place, from 0, at the prices.
@@ -71,7 +65,7 @@ pub fn add_utility(
     let (_, list) = auction.bidder(k);
     let value = list.utility(prices);
     page.text(b"utility")?;
-    add_name(page, auction, k)?;
+    add_bidder(page, auction, k)?;
     page.number(value)?;
     page.end_row()
 }
@@ -85,7 +79,7 @@ pub fn add_valid(page: &mut Page, auction: &Auction, k: usize) -> Result<(), Mem
     let (_, list) = auction.bidder(k);
     let total = list.total();
     page.text(b"valid")?;
-    add_name(page, auction, k)?;
+    add_bidder(page, auction, k)?;
     page.number(total)?;
     page.end_row()
 }
@@ -96,7 +90,39 @@ pub fn add_prices(page: &mut Page, prices: &Prices) -> Result<(), Memory>
     ensures { OnOk result (page.new ≡ record { ended = page.old.ended ++ line_of (price_row prices.now.items); fields = [] }) }
 {
     page.text(b"price")?;
-    add_numbers(page, prices)?;
+    page.numbers(prices)?;
+    page.end_row()
+}
+
+/// Adds the row of the units that are sold.
+pub fn add_sold(page: &mut Page, units: &Bundle) -> Result<(), Memory>
+    requires { page.old.fields ≡ [] }
+    ensures { OnOk result (page.new ≡ record { ended = page.old.ended ++ line_of (sold_row units.now.items); fields = [] }) }
+{
+    page.text(b"sold")?;
+    page.numbers(units)?;
+    page.end_row()
+}
+
+/// Adds the row of what all bidders pay together.
+pub fn add_revenue(page: &mut Page, sum: i64) -> Result<(), Memory>
+    requires { page.old.fields ≡ [] }
+    ensures { OnOk result (page.new ≡ record { ended = page.old.ended ++ line_of (revenue_row sum); fields = [] }) }
+{
+    page.text(b"revenue")?;
+    page.number(sum)?;
+    page.end_row()
+}
+
+/// Adds the row of a long step.
+pub fn add_step(page: &mut Page, step: &LongStep) -> Result<(), Memory>
+    requires { page.old.fields ≡ [] }
+    ensures { OnOk result (page.new ≡ record { ended = page.old.ended ++ line_of (step_row step.now); fields = [] }) }
+{
+    page.text(b"step")?;
+    page.number(i64::from(step.set.bits()))?;
+    page.number(step.length)?;
+    page.number(step.slope)?;
     page.end_row()
 }
 

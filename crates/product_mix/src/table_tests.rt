@@ -7,8 +7,9 @@ ghost use Rattle.mix_validity.specs.ValidLists.{book_of};
 
 use mix_bids::{Bid, BidList, Values};
 use mix_demand::{Rho, is_demanded, rho_of};
-use mix_law::Convex;
-use mix_num::{Bundle, Memory, Prices, Set};
+use mix_law::{Convex, Pair};
+use mix_market::Market;
+use mix_num::{Bundle, Memory, Prices, Set, SetTable};
 use mix_seller::Seller;
 use mix_validity::{ValidList, validate};
 use std::alloc::Global;
@@ -122,5 +123,80 @@ fn both_goods_are_too_many(rt: HostRuntime) -> Result<(), Fail> {
         is_demanded(&of_member, &amounts(1)),
         Some(Set::from_bits(6))
     );
+    Ok(())
+}
+
+/// An amount of either good.
+fn both_amounts(first: i64, second: i64) -> Bundle
+    requires first { IsAmount first }
+    requires second { IsAmount second }
+    ensures { AreAmounts 2 result.items }
+{
+    let mut both = Bundle::new();
+    both.push(first);
+    both.push(second);
+    both
+}
+
+/// What is asked of a member at prices of both goods and of the first good alone: its total, its tops, its value, its fall, its
+/// gain and its reach.
+fn answers<D: Convex>(member: &D, first: i64, second: i64) -> [i64; 7]
+    requires size { D.size member.now ≡ 2 }
+    requires first { Lies 3999999 first }
+    requires second { Lies 3999999 second }
+{
+    let prices = prices(first, second);
+    let set = Set::from_bits(2);
+    [
+        member.total(),
+        member.top(1),
+        member.top(2),
+        member.value(&prices),
+        member.fall(&prices, set),
+        member.gain_down(&prices, set),
+        member.reach(&prices, set),
+    ]
+}
+
+/// The slopes of the market of this member and of one unit of each good.
+fn slopes<D: Convex + Drop>(
+    alloc: Global,
+    member: D,
+    first: i64,
+    second: i64,
+) -> Result<SetTable, Fail>
+    requires size { D.size member ≡ 2 }
+    requires first { Lies 3999999 first }
+    requires second { Lies 3999999 second }
+{
+    let mut members = Vec::new(alloc);
+    members.push(member)?;
+    let market = Market::new(members, Seller::new(&amounts(1), &amounts(0)));
+    let mut out = SetTable::new();
+    market.slopes(&prices(first, second), &mut out);
+    Ok(out)
+}
+
+// The list with a negative bid and a seller together are a member, by the sums of their numbers.
+#[test]
+fn a_pair_is_a_member(rt: HostRuntime) -> Result<(), Fail> {
+    let alloc = rt.alloc();
+    let list = valid(alloc, either(alloc)?)?;
+    let seller = Seller::new(&both_amounts(30, 20), &both_amounts(10, 15));
+    assert!(rt; list.total() + seller.total() <= 8_000_000);
+    if list.total() + seller.total() <= 8_000_000 {
+        let pair = Pair::new(list, seller);
+        assert_eq!(rt; pair.goods(), 2);
+        assert_eq!(rt; answers(&pair, 4, 0), [52, 10, 15, 486, 30, 31, 6]);
+        let of_pair = table(alloc, &pair, 4, 0)?;
+        assert_eq!(rt;
+            of_pair.numbers(),
+            [0, 1, 31, 31, 21, 22, 52, 52].as_slice()
+        );
+        let of_market = slopes(alloc, pair, 4, 0)?;
+        for (bits, slope) in [(2, -29), (4, -20), (6, -49), (1, 0), (7, 0)] {
+            assert_eq!(rt; of_market.at(Set::from_bits(bits)), slope);
+        }
+    }
     Ok(())
 }

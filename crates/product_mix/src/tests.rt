@@ -4,23 +4,23 @@ use mix_io::{MemorySink, MemorySource};
 use std::alloc::Global;
 use std::test::Fail;
 
-const AUCTION: &[u8] =
+pub const AUCTION: &[u8] =
     b"mix,1\ngoods,A,B\nsupply,1,1\nreserve,0,0\nbid,X,1,4,-\nbid,X,1,-,4\nbid,X,1,6,6\nbid,X,-1,4,4\nbid,Y,1,5,-\nend\n";
 
 // Bids of one good follow.
-const ONE_GOOD: &[u8] = b"mix,1\ngoods,A\nsupply,1\nreserve,0\n";
+pub const ONE_GOOD: &[u8] = b"mix,1\ngoods,A\nsupply,1\nreserve,0\n";
 
 // Bids of two goods follow.
-const TWO_GOODS: &[u8] = b"mix,1\ngoods,A,B\nsupply,1,1\nreserve,0,0\n";
+pub const TWO_GOODS: &[u8] = b"mix,1\ngoods,A,B\nsupply,1,1\nreserve,0,0\n";
 
 // The auction as a spreadsheet saves it, up to its last bid.
-const SPREAD: &[u8] =
+pub const SPREAD: &[u8] =
     b"mix,1,,,\r\ngoods,A,B,,\r\nsupply,1,1,,\r\nreserve,0,0,,\r\nbid,X,1,4,-\r\nbid,X,1,-,4\r\nbid,X,1,6,6\r\nbid,X,-1,4,4\r\nbid,Y,1,5,-\r\n,,,,\r\n";
 
-const MARK: &[u8] = b"\xEF\xBB\xBF";
+pub const MARK: &[u8] = b"\xEF\xBB\xBF";
 
 // What stands at the front, and then `count` times `line`, and then `tail`.
-fn text_of(
+pub fn text_of(
     alloc: Global,
     front: &[u8],
     line: &[u8],
@@ -36,7 +36,7 @@ fn text_of(
 }
 
 // A call with these words, from a source of pieces of 8 bytes whose listed calls fail to a sink with room for `room` bytes.
-fn call(
+pub fn call(
     alloc: Global,
     words: &[&str],
     text: Vec<u8>,
@@ -51,6 +51,18 @@ fn call(
     let mut output = MemorySink::new(alloc, room, 3, Vec::new(alloc))?;
     let status = run(alloc, &named, &mut input, &mut output);
     Ok((status, output))
+}
+
+// Whether a call with one word on the text ends with the status and writes exactly this.
+pub fn gives(
+    alloc: Global,
+    word: &str,
+    text: Vec<u8>,
+    status: u8,
+    output: &[u8],
+) -> Result<bool, Fail> {
+    let (answer, sink) = call(alloc, &[word], text, Vec::new(alloc), 4096)?;
+    Ok(answer == status && sink.bytes() == output)
 }
 
 #[test]
@@ -227,8 +239,9 @@ fn refusals(rt: HostRuntime) -> Result<(), Fail> {
         ),
     ];
     for (bids, tail, most) in cases {
-        assert!(rt; is_refused(alloc, "validate", bids, tail, most)?);
-        assert!(rt; is_refused(alloc, "prices", bids, tail, most)?);
+        for word in ["validate", "prices", "trail", "solve"] {
+            assert!(rt; is_refused(alloc, word, bids, tail, most)?);
+        }
     }
     let text =
         b"mix,1\ngoods,A,B,C\nsupply,1,1,1\nreserve,0,0,0\nbid,X,1,5,2,2\nbid,X,-1,5,2,8\nbid,X,-1,5,8,2\nbid,X,1,-,8,2\nbid,X,1,-,2,8\nbid,X,1,6,9,-\nbid,X,1,6,-,9\nend\n";
@@ -248,7 +261,12 @@ fn refusals(rt: HostRuntime) -> Result<(), Fail> {
 #[test]
 fn least_prices(rt: HostRuntime) -> Result<(), Fail> {
     let alloc = rt.alloc();
-    let cases: [(&[u8], &[u8], &[u8]); 8] = [
+    let cases: [(&[u8], &[u8], &[u8]); 9] = [
+        (
+            ONE_GOOD,
+            b"bid,P,1,1000000\nbid,Q,1,1000000\nend\n",
+            b"price,1000000\nend\n",
+        ),
         (
             b"mix,1\ngoods,A\nsupply,3\nreserve,2\n",
             b"bid,P,2,10\nbid,Q,2,7\nbid,S,1,5\nend\n",

@@ -3,13 +3,13 @@ ghost use Rattle.std.specs.Prelude.{◌≡◌, ◌<◌, ◌≤◌, ◌++◌, [],
 ghost use Rattle.mix_text.specs.AuctionTexts.{auction_text};
 ghost use Rattle.mix_text.specs.Pages.{printed};
 ghost use Rattle.mix_text.specs.Reading.{IsFromText};
-ghost use Rattle.product_mix.specs.Answers.{output_of};
+ghost use Rattle.product_mix.specs.Replies.{output_of};
 ghost use Rattle.product_mix.specs.Readings.{auction_alone};
 ghost use Rattle.product_mix.specs.Validities.{IsValidity, IsValidityOf, valid_page, valid_row};
 
 use crate::alone::read_alone;
-use crate::answer::Answer;
 use crate::refusal::refused_bidder;
+use crate::reply::Reply;
 use crate::rows::{add_end, add_valid};
 use mix_num::Memory;
 use mix_solve::{Admitted, admit};
@@ -40,12 +40,12 @@ fn valid_text(alloc: Global, auction: &Auction) -> Result<Vec<u8>, Memory>
 }
 
 // The totals of the bidders where every list is convex, else a refusal.
-fn validity(alloc: Global, auction: &Auction) -> Result<Answer, Memory>
-    ensures output { IfOk result (λ answer. IsValidity (auction_text auction.now) (output_of answer)) }
-    ensures status { IfOk result (λ answer. answer.status < 2) }
+fn validity(alloc: Global, auction: &Auction) -> Result<Reply, Memory>
+    ensures output { IfOk result (λ reply. IsValidity (auction_text auction.now) (output_of reply)) }
+    ensures status { IfOk result (λ reply. reply.status < 2) }
 {
     match admit(alloc, auction)? {
-        Admitted::Market(_market) => Ok(Answer {
+        Admitted::Market(_market) => Ok(Reply {
             status: VALID,
             bytes: valid_text(alloc, auction)?,
         }),
@@ -58,15 +58,15 @@ fn validity(alloc: Global, auction: &Auction) -> Result<Answer, Memory>
 ///
 /// The error is what is wrong first with the text, which has at most 4,194,304 bytes; `Memory` may come in place of any
 /// answer.
-pub fn print_validity(alloc: Global, text: &[u8]) -> Result<Answer, TextError>
+pub fn print_validity(alloc: Global, text: &[u8]) -> Result<Reply, TextError>
     requires { length text.now ≤ 4194304 }
-    ensures done { IfOk result (λ answer. IsValidityOf text.now (output_of answer)) }
-    ensures status { IfOk result (λ answer. answer.status < 2) }
+    ensures done { IfOk result (λ reply. IsValidityOf text.now (output_of reply)) }
+    ensures status { IfOk result (λ reply. reply.status < 2) }
     ensures wrong { IfErr result (λ e. IsFromText (auction_alone text.now) e) }
 {
     let auction = read_alone(alloc, text)?;
     match validity(alloc, &auction) {
-        Ok(answer) => Ok(answer),
+        Ok(reply) => Ok(reply),
         Err(Memory) => Err(TextError::Memory),
     }
 }

@@ -2,11 +2,14 @@
 ghost use Rattle.std.specs.Prelude.{◌≡◌, map, true};
 ghost use Rattle.std.specs.String.{string_bytes};
 ghost use Rattle.mix_text.specs.Pages.{is_printable};
-ghost use Rattle.product_mix.specs.Words.{are_alone, command_of, code_word, what_word};
+ghost use Rattle.product_mix.specs.Words.{are_alone, command_of, code_word, task_of, trial_asked, what_word};
 
-use mix_text::{Code, What};
+use mix_text::{Code, What, read_number};
 
-/// What the program may be asked to do.
+// The greatest number of a trial auction.
+const MOST_TRIALS: i64 = 4_294_967_295;
+
+/// What the program may be asked to do with a text.
 #[derive(Clone, Copy, Debug, PartialEq, Eq)]
 pub enum Command {
     /// Print each bidder's indirect utility at given prices.
@@ -15,11 +18,51 @@ pub enum Command {
     Validate,
     /// Print the least prices, where every list of bids is convex.
     Prices,
+    /// Print the long steps from the reserves to the least prices, where every list of bids is convex.
+    Trail,
+    /// Print the outcome: prices, shares, returns and tight pairs, where every list of bids is convex.
+    Solve,
+    /// Say whether an outcome is true, and else why it isn't.
+    Check,
+}
+
+/// What the words ask for.
+#[derive(Clone, Copy, Debug, PartialEq, Eq)]
+pub enum Task {
+    /// A command on the text of the input.
+    OnText(Command),
+    /// The trial auction of a number, from 0 to 4,294,967,295; nothing is read.
+    Trial(u64),
+}
+
+impl Task {
+    /// What the words ask for; None where it is nothing that is known. It takes no memory.
+    pub fn asked_by(words: &[String]) -> Option<Task>
+        ensures { result ≡ task_of (map (λ w. string_bytes w) words.now) }
+    {
+        match words {
+            [first, second] => trial_of(first, second),
+            _ => Command::called_by(words).map(Task::OnText),
+        }
+    }
+}
+
+// The trial auction that two words ask for: `trial`, and a number.
+fn trial_of(first: &str, second: &str) -> Option<Task>
+    ensures { result ≡ trial_asked first.now second.now }
+{
+    if first != "trial" {
+        return None;
+    }
+    match read_number(second.as_bytes(), 0, MOST_TRIALS) {
+        Ok(number) => Some(Task::Trial(number.unsigned_abs())),
+        Err(_) => None,
+    }
 }
 
 impl Command {
-    /// The command that the words call; None where they call none. It takes no memory.
-    pub fn called_by(words: &[String]) -> Option<Command>
+    /// The command that the words call; None where they call none.
+    fn called_by(words: &[String]) -> Option<Command>
         ensures { result ≡ command_of (map (λ w. string_bytes w) words.now) }
     {
         if is_alone(words, "utility") {
@@ -28,6 +71,12 @@ impl Command {
             Some(Command::Validate)
         } else if is_alone(words, "prices") {
             Some(Command::Prices)
+        } else if is_alone(words, "trail") {
+            Some(Command::Trail)
+        } else if is_alone(words, "solve") {
+            Some(Command::Solve)
+        } else if is_alone(words, "check") {
+            Some(Command::Check)
         } else {
             None
         }

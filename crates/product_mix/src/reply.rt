@@ -1,8 +1,8 @@
 // What is to be written, and the status that goes with it.
 
-/// An answer: the status, and the bytes to write.
+/// A reply: the status, and the bytes to write.
 #[derive(Drop)]
-pub struct Answer {
+pub struct Reply {
     pub status: u8,
     pub bytes: Vec<u8>,
 }

@@ -1,11 +1,11 @@
 use Rattle.std.proofs.Common.{Err, ap, refl}
 use Rattle.product_mix.proofs.Causes.{long_answered}
 use Rattle.product_mix.proofs.Taken.{takes_at_most}
-use Rattle.product_mix.proofs.command.perform.Goals as goal
+use Rattle.product_mix.proofs.command.perform_on_text.Goals as goal
 
 pub returns-in-Err-TooLong-clause-answer : goal.returns-in-Err-TooLong-clause-answer
 returns-in-Err-TooLong-clause-answer g c = λ seven.
-    long_answered _ _ _ _ _ _ _ _ c.in-Some.is (c.in-Err-TooLong.ensures.long (ap Err c.in-Err-TooLong.field-0-is)) c.write_out-in-Err-TooLong.ensures.written
+    long_answered c.args.command _ _ _ _ _ _ (c.in-Err-TooLong.ensures.long (ap Err c.in-Err-TooLong.field-0-is)) c.write_out-in-Err-TooLong.ensures.written
 
 pub returns-in-Ok-clause-taken : goal.returns-in-Ok-clause-taken
 returns-in-Ok-clause-taken g c = takes_at_most c.read_all.result 4194304 4194305 _ _ refl c.read_all.ensures.taken

@@ -1,0 +1,56 @@
+-- What stands behind each status: what a text has or is where its command is done, where it isn't, and where it is refused.
+use Rattle.std.specs.Prelude.{◌≡◌, ◌<◌, ◌≤◌, ◌⊎◌, ℕ, List, length, Option, Some, None, Ok, IfSome, IsSomeAnd}
+use Rattle.mix_text.specs.declared.faults.Fault.{Fault}
+use Rattle.mix_text.specs.declared.faults.Limit.{Limit}
+use Rattle.mix_text.specs.declared.faults.TextError.TheVariants as error
+use Rattle.product_mix.specs.Calls.{IsWrong}
+use Rattle.product_mix.specs.Checkings.{HasFalseOutcome, HasTrueOutcome}
+use Rattle.product_mix.specs.Outputs.{most_bytes}
+use Rattle.product_mix.specs.Refusals.{HasConvexLists, HasNonconvexList}
+use Rattle.product_mix.specs.Utilities.{utility_text}
+use Rattle.product_mix.specs.declared.words.Command.{Command}
+use Rattle.product_mix.specs.declared.words.Command.TheVariants.{Check, Prices, Solve, Trail, Utility, Validate}
+use Rattle.product_mix.specs.declared.words.Task.{Task}
+use Rattle.product_mix.specs.declared.words.Task.TheVariants.{OnText, Trial}
+
+-- a text is as the command wants it, and what the command asks is met: that each list is convex, or that the outcome is true
+abbrev pub IsMet : Command → List ℕ → Type 0
+IsMet Utility text = (bytes : List ℕ) × (utility_text text ≡ Ok bytes)
+IsMet Validate text = HasConvexLists text
+IsMet Prices text = HasConvexLists text
+IsMet Trail text = HasConvexLists text
+IsMet Solve text = HasConvexLists text
+IsMet Check text = HasTrueOutcome text
+
+-- a text is as the command wants it, but what the command asks isn't met: some list isn't convex, or the outcome isn't true
+abbrev pub IsUnmet : Command → List ℕ → Type 0
+IsUnmet Utility text = ⊥
+IsUnmet Validate text = HasNonconvexList text
+IsUnmet Prices text = HasNonconvexList text
+IsUnmet Trail text = HasNonconvexList text
+IsUnmet Solve text = HasNonconvexList text
+IsUnmet Check text = HasFalseOutcome text
+
+-- a text has a fault before it passes a limit
+abbrev pub IsFaulty : Command → List ℕ → Type 0
+IsFaulty command text = (fault : Fault) × IsWrong command text (error.Fault fault)
+
+-- a text of not too many bytes passes a test
+abbrev pub Within : (Command → List ℕ → Type 0) → Command → List ℕ → Type 0
+Within test command text = (length text ≤ most_bytes) × test command text
+
+-- a text has too many bytes, or passes a limit before it has a fault
+abbrev pub IsTooMuch : Command → List ℕ → Type 0
+IsTooMuch command text = (most_bytes < length text) ⊎ ((length text ≤ most_bytes) × (limit : Limit) × IsWrong command text (error.Limit limit))
+
+-- the words ask for a command, and the text, if it is told, passes a test; or they ask for a trial auction, of which something is said
+abbrev pub Has : (Command → List ℕ → Type 0) → Type 0 → Option Task → Option (List ℕ) → Type 0
+Has test trial None text = ⊥
+Has test trial (Some (OnText command)) text = IfSome text (λ bytes. test command bytes)
+Has test trial (Some (Trial number)) text = trial
+
+-- the same of a text that is told
+abbrev pub Shows : (Command → List ℕ → Type 0) → Type 0 → Option Task → Option (List ℕ) → Type 0
+Shows test trial None text = ⊥
+Shows test trial (Some (OnText command)) text = IsSomeAnd text (λ bytes. test command bytes)
+Shows test trial (Some (Trial number)) text = trial
