@@ -135,6 +135,10 @@ two_sums m x y =
     let e = sum_to-same m (λ k. (x k +ℤ y k) -ℤ y k) x (λ k _. omega (arith, ints)) in
     omega (arith, ints)
 
+apart : (b : Bool) (u v : ℤ) → cond b (u +ℤ v) (pos 0) ≡ cond b u (pos 0) +ℤ cond b v (pos 0)
+apart true u v = refl
+apart false u v = omega (arith, ints)
+
 -- the sum over the subsets of a set is the weight of the bids whose best set lies in it
 within_sum : (n s : ℕ) (bs : List Bid) (x : Vector) → n ≤ 8 → AreOver n bs → sum_to 512 (λ t. cond (lies_in t s) (best_weight bs x t) (pos 0)) ≡ weight_within n (members s) bs x
 within_sum n s [] x few o = sum_to-zero 512 (λ t. cond (lies_in t s) (pos 0) (pos 0)) (λ t _. nothing (lies_in t s))
@@ -148,15 +152,19 @@ within_sum n s (b ∷ bs) x few o =
     sum_to-same 512 _ _ (λ t i. apart (lies_in t s) (cond (same_set 9 (best b.values.items x) (members t)) b.weight (pos 0)) (best_weight bs x t))
     ∙ two_sums 512 (λ t. cond (lies_in t s) (cond (same_set 9 (best b.values.items x) (members t)) b.weight (pos 0)) (pos 0)) (λ t. cond (lies_in t s) (best_weight bs x t) (pos 0))
     ∙ ap₂ (λ (u v : ℤ). u +ℤ v) first rest
-  where
-    apart : (b : Bool) (u v : ℤ) → cond b (u +ℤ v) (pos 0) ≡ cond b u (pos 0) +ℤ cond b v (pos 0)
-    apart true u v = refl
-    apart false u v = omega (arith, ints)
 
 -- in a table of best weights it is the sum of the numbers of the subsets
 pub subset_within : (n s : ℕ) (bs : List Bid) (x : Vector) (table : List ℤ) → n ≤ 8 → AreOver n bs → ((t : ℕ) → t < 512 → number_of table t ≡ best_weight bs x t) → subset_sum table s ≡ weight_within n (members s) bs x
 unfolding subset_sum
 subset_within n s bs x table few o h = sum_to-same 512 _ _ (λ t i. ap (λ (v : ℤ). cond (lies_in t s) v (pos 0)) (h t i)) ∙ within_sum n s bs x few o
+
+-- where the best weights are added to a table, that weight is added to the sum
+pub subset_more : (n s : ℕ) (bs : List Bid) (x : Vector) (old new : List ℤ) → n ≤ 8 → AreOver n bs → ((t : ℕ) → t < 512 → number_of new t ≡ number_of old t +ℤ best_weight bs x t) → subset_sum new s ≡ subset_sum old s +ℤ weight_within n (members s) bs x
+unfolding subset_sum
+subset_more n s bs x old new few o h =
+    sum_to-same 512 _ _ (λ t i. ap (λ (v : ℤ). cond (lies_in t s) v (pos 0)) (h t i) ∙ apart (lies_in t s) (number_of old t) (best_weight bs x t))
+    ∙ two_sums 512 (λ t. cond (lies_in t s) (number_of old t) (pos 0)) (λ t. cond (lies_in t s) (best_weight bs x t) (pos 0))
+    ∙ ap (λ (v : ℤ). sum_to 512 (λ t. cond (lies_in t s) (number_of old t) (pos 0)) +ℤ v) (within_sum n s bs x few o)
 
 -- ---- the choices outside a set
 

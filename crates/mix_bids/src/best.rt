@@ -1,5 +1,6 @@
 // The best set of a bid.
 ghost use Rattle.std.specs.Prelude.{◌≡◌, ℕ, ◌+◌, ◌^◌, ◌<◌, ◌≤◌, true, false, cond, eqb, pos, ◌≤ℤ◌, length};
+ghost use Rattle.std.specs.Int.{int_max};
 ghost use Rattle.std.specs.Ordering.{int_eq};
 ghost use Rattle.mix_num.specs.Vectors.{members, with_null};
 ghost use Rattle.mix_num.specs.Ranges.{ArePrices, Lies};
@@ -7,8 +8,7 @@ ghost use Rattle.mix_bids.specs.Offers.{best as best_of, better as better_of, le
 ghost use Rattle.mix_bids.specs.Bids.{IsBid};
 
 use crate::bid::Bid;
-use crate::choices::{set_where, with_choice_where};
-use crate::gain::better;
+use crate::choices::{set_where, with_choice};
 use mix_num::{Prices, Set};
 
 /// Of the choices looked at so far, the greatest value less price, and the set of those that have it.
@@ -41,24 +41,30 @@ impl Best {
         ensures set { (k : ℕ) → members result.set k ≡ cond (cond (eqb k choice) (leaves_of offer price result.gain) false) true (cond (int_eq result.gain self.gain) (members self.set k) false) }
         ensures size { (m : ℕ) → self.set < 2 ^ m → choice < m → result.set < 2 ^ m }
     {
-        let gain = better(offer, price, self.gain);
+        match offer {
+            Some(value) => self.with_gain(choice, value - price),
+            None => self,
+        }
+    }
+
+    /// With one more choice looked at, which leaves this gain.
+    fn with_gain(self, choice: usize, gain: i64) -> Best
+        requires choice { choice ≤ 8 }
+        requires new { Lies 5000000 gain }
+        requires gain { (pos 0 ≤ℤ self.gain) × (self.gain ≤ℤ pos 5000000) }
+        ensures gain { result.gain ≡ int_max self.gain gain }
+        ensures range { (pos 0 ≤ℤ result.gain) × (result.gain ≤ℤ pos 5000000) }
+        ensures set { (k : ℕ) → members result.set k ≡ cond (cond (eqb k choice) (int_eq gain result.gain) false) true (cond (int_eq result.gain self.gain) (members self.set k) false) }
+        ensures size { (m : ℕ) → self.set < 2 ^ m → choice < m → result.set < 2 ^ m }
+    {
+        if gain < self.gain {
+            return self;
+        }
         let before = set_where(gain == self.gain, self.set);
         Best {
             gain,
-            set: with_choice_where(leaves(offer, price, gain), before, choice),
+            set: with_choice(before, choice),
         }
-    }
-}
-
-/// Whether the offer leaves the gain at the price.
-fn leaves(offer: Option<i64>, price: i64, gain: i64) -> bool
-    requires offer { IsOffer offer }
-    requires price { Lies 4000000 price }
-    ensures { result ≡ leaves_of offer price gain }
-{
-    match offer {
-        Some(value) => value - price == gain,
-        None => false,
     }
 }
 
@@ -72,8 +78,11 @@ pub fn best_set(bid: &Bid, prices: &Prices) -> Set
     let offers = bid.values.as_slice();
     let prices = prices.as_slice();
     let mut best = Best::null();
-    for i in 0..offers.len() {
-        best = best.with(i + 1, offers[i], prices[i]);
+    // The compiler knows how many turns these are, and writes them out one by one.
+    for i in 0..8 {
+        if i < offers.len() {
+            best = best.with(i + 1, offers[i], prices[i]);
+        }
     }
     best.set
 }

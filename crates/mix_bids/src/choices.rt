@@ -14,15 +14,6 @@ pub fn with_choice(set: Set, choice: usize) -> Set
     Set::from_bits(set.bits() | 1 << choice)
 }
 
-/// The set, with one more choice where the test holds.
-pub fn with_choice_where(test: bool, set: Set, choice: usize) -> Set
-    requires { choice ≤ 8 }
-    ensures members { (k : ℕ) → members result k ≡ cond (cond (eqb k choice) test false) true (members set k) }
-    ensures size { (m : ℕ) → set < 2 ^ m → choice < m → result < 2 ^ m }
-{
-    if test { with_choice(set, choice) } else { set }
-}
-
 /// The set where the test holds, or no choice.
 pub fn set_where(test: bool, set: Set) -> Set
     ensures members { (k : ℕ) → members result k ≡ cond test (members set k) false }

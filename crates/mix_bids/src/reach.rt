@@ -60,8 +60,11 @@ fn gap(values: &Values, prices: &Prices, set: Set) -> i64
         inside: 0,
         outside: 0,
     };
-    for i in 0..offers.len() {
-        gains = gains.with(set.has(i + 1), offers[i], prices[i]);
+    // The compiler knows how many turns these are, and writes them out one by one.
+    for i in 0..8 {
+        if i < offers.len() {
+            gains = gains.with(set.has(i + 1), offers[i], prices[i]);
+        }
     }
     gains.inside - gains.outside
 }

@@ -1,7 +1,8 @@
 // What every member of the market can be asked, and the laws that its answers keep.
-ghost use Rattle.std.specs.Prelude.{◌≡◌, ◌≤◌, ◌<◌, ◌^◌, ℕ, ℤ, suc, pos, false, ◌+ℤ◌, ◌-ℤ◌, ◌*ℤ◌, ◌≤ℤ◌};
+ghost use Rattle.std.specs.Prelude.{◌≡◌, ◌≤◌, ◌<◌, ◌^◌, ℕ, ℤ, suc, pos, false, ◌+ℤ◌, ◌-ℤ◌, ◌*ℤ◌, ◌≤ℤ◌, IsTrue, IsFalse};
 ghost use Rattle.mix_num.specs.Vectors.{Choices, Vector, members, ray, with_null};
 ghost use Rattle.mix_num.specs.Ranges.{HaveRoom, Lies};
+ghost use Rattle.mix_num.specs.Subsets.{sizes, subset_sum};
 ghost use Rattle.mix_num.specs.Tables.{number_of};
 ghost use Rattle.mix_law.specs.Members.{IsConvex, fall_of, rho};
 
@@ -87,6 +88,22 @@ pub trait Convex {
             let set = Set::from_bits(bits);
             out.add(set, self.fall(prices, set));
         }
+    }
+
+    /// Whether the member has told its falls by parts: it has added to some numbers, so that the sum over the subsets of each set of
+    /// the choices 0 to n has grown by what [`Convex::fall`] gives of the set. Else the table is as it was, and [`Convex::falls`] tells them.
+    ///
+    /// So the parts of many members are summed over subsets once. The sizes of all numbers add up to at most 3,996,000,000 before, and to
+    /// at most 4,000,000 more then.
+    fn falls_by_parts(&self, prices: &Prices, parts: &mut SetTable) -> bool
+        requires prices { HaveRoom (size self.now) prices.now.items }
+        requires small { sizes parts.old ≤ℤ pos 3996000000 }
+        ensures told { IsTrue result → (set : ℕ) → set < 2 ^ suc (size self.now) →
+            subset_sum parts.new set ≡ subset_sum parts.old set +ℤ fall_of (function self.now) (with_null prices.now.items) (members set) }
+        ensures small { sizes parts.new ≤ℤ (sizes parts.old +ℤ pos 4000000) }
+        ensures untold { IsFalse result → parts.new ≡ parts.old }
+    {
+        false
     }
 
     /// Adds to the number of each set of the choices 0 to n what [`Convex::gain_down`] gives of the set; other numbers stay.

@@ -93,6 +93,11 @@ impl Convex for ValidList {
         self.list.falls(prices, out)
     }
 
+    fn falls_by_parts(&self, prices: &Prices, parts: &mut SetTable) -> bool {
+        self.list.add_best_weights(prices, parts);
+        true
+    }
+
     fn gains(&self, prices: &Prices, out: &mut SetTable) {
         self.list.gains(prices, out)
     }
