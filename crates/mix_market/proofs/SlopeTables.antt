@@ -1,23 +1,38 @@
 -- Tables of falls and of slopes: one member more, and one set of goods more.
-use Rattle.std.proofs.Common.{◌≡◌, ◌≢◌, ◌∙◌, ℕ, ◌+◌, ◌*◌, ◌<◌, ◌≤◌, Bool, true, false, ltb, List, ℤ, pos, ◌+ℤ◌, ◌≤ℤ◌, refl, arith, ap, below_more}
-use Rattle.std.proofs.lemmas.Int.{ints}
+use Rattle.std.proofs.Common.{◌≡◌, ◌≢◌, ◌∙◌, ℕ, ◌+◌, ◌*◌, ◌<◌, ◌≤◌, Bool, true, false, ltb, List, ℤ, pos, ◌+ℤ◌, ◌-ℤ◌, ◌≤ℤ◌, ◌^◌, suc, cond, refl, arith, ap, below_more}
+use Rattle.std.proofs.lemmas.Int.{ints, clamps}
 use Rattle.std.proofs.lemmas.Bool.{ltb-true, ltb-false}
 use Rattle.mix_num.specs.Ranges.{Lies}
 use Rattle.mix_num.specs.Tables.{number_of}
+use Rattle.mix_num.specs.Subsets.{lies_in, sizes, subset_sum}
+use Rattle.mix_num.proofs.Additions.{sum_to-zero}
+use Rattle.std.specs.Int.{int_max}
+
+-- in a table of zeros all sums are 0
+pub no_parts : (table : List ℤ) (set : ℕ) → ((k : ℕ) → number_of table k ≡ pos 0) → subset_sum table set ≡ pos 0
+unfolding subset_sum
+no_parts table set h = sum_to-zero 512 (λ t. cond (lies_in t set) (number_of table t) (pos 0)) (λ t _. at (lies_in t set) t)
+  where
+    at : (b : Bool) (t : ℕ) → cond b (number_of table t) (pos 0) ≡ pos 0
+    at true t = h t
+    at false t = refl
+
+pub no_sizes : (table : List ℤ) → ((k : ℕ) → number_of table k ≡ pos 0) → sizes table ≡ pos 0
+unfolding sizes
+no_sizes table h = sum_to-zero 512 (λ t. int_max (number_of table t) (pos 0 -ℤ number_of table t)) (λ k _. let e = h k in omega (arith, ints, clamps))
 
 pub sum_lies : (sum fall weight : ℤ) (k : ℕ) → k < 256 → pos 0 ≤ℤ sum → sum ≤ℤ pos (8000000 * k) → (pos 0 ≤ℤ fall) × (fall ≤ℤ weight) → weight ≤ℤ pos 8000000 → Lies 4000000000 (sum +ℤ fall)
 sum_lies sum fall weight k l low high range most = (omega (arith, ints, range.0, range.1), omega (arith, ints, range.0, range.1))
 
-pub sum_next : (old new own rest all total : ℤ) → new ≡ old +ℤ own → all ≡ own +ℤ rest → old +ℤ all ≡ total → new +ℤ rest ≡ total
-sum_next old new own rest all total a b c = omega (arith, ints)
+pub sum_next : (old parts new more own rest all total : ℤ) → new +ℤ more ≡ (old +ℤ parts) +ℤ own → all ≡ own +ℤ rest → (old +ℤ parts) +ℤ all ≡ total → (new +ℤ more) +ℤ rest ≡ total
+sum_next old parts new more own rest all total a b c = omega (arith, ints)
 
-pub sum_range : (old new fall weight : ℤ) (k set sets : ℕ) → (set < sets → new ≡ old +ℤ fall) → (sets ≤ set → new ≡ old) → pos 0 ≤ℤ old → old ≤ℤ pos (8000000 * k) → (pos 0 ≤ℤ fall) × (fall ≤ℤ weight) → weight ≤ℤ pos 8000000
-    → (pos 0 ≤ℤ new) × (new ≤ℤ pos (8000000 * (k + 1)))
-sum_range old new fall weight k set sets inside outside low high range most = at (ltb set sets) refl
+pub grown : (old new fall weight : ℤ) (set sets : ℕ) → (set < sets → new ≡ old +ℤ fall) → (sets ≤ set → new ≡ old) → (pos 0 ≤ℤ fall) × (fall ≤ℤ weight) → (old ≤ℤ new) × (new ≤ℤ (old +ℤ weight))
+grown old new fall weight set sets inside outside range = at (ltb set sets) refl
   where
-    at : (b : Bool) → ltb set sets ≡ b → (pos 0 ≤ℤ new) × (new ≤ℤ pos (8000000 * (k + 1)))
+    at : (b : Bool) → ltb set sets ≡ b → (old ≤ℤ new) × (new ≤ℤ (old +ℤ weight))
     at true e = let s = inside (ltb-true set sets e) in (omega (arith, ints, range.0, range.1), omega (arith, ints, range.0, range.1))
-    at false e = let s = outside (ltb-false set sets e) in (omega (arith, ints), omega (arith, ints))
+    at false e = let s = outside (ltb-false set sets e) in (omega (arith, ints, range.0, range.1), omega (arith, ints, range.0, range.1))
 
 -- the sets 0, 2, .. below 2 * i have their numbers, and the others have 0
 pub record AreDone (table : List ℤ) (f : ℕ → ℤ) (i : ℕ) : Type 0 where

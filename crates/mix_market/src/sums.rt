@@ -2,6 +2,7 @@
 ghost use Rattle.std.specs.Prelude.{◌≡◌, ◌≤◌, ◌<◌, ◌^◌, ℕ, ℤ, suc, false, pos, ◌+ℤ◌, ◌-ℤ◌, ◌*ℤ◌, ◌≤ℤ◌, length, map, All};
 ghost use Rattle.mix_num.specs.Vectors.{members, ray, with_null};
 ghost use Rattle.mix_num.specs.Ranges.{HaveRoom, Lies};
+ghost use Rattle.mix_num.specs.Subsets.{sizes, subset_sum};
 ghost use Rattle.mix_num.specs.Tables.{number_of};
 ghost use Rattle.mix_law.specs.Members.{fall_of};
 ghost use Rattle.mix_market.specs.Extremes.{greatest_of, least_of};
@@ -49,10 +50,49 @@ pub fn falls<D: Convex>(buyers: &[D], prices: &Prices) -> SetTable
     ensures range { (set : ℕ) → (pos 0 ≤ℤ number_of result set) × (number_of result set ≤ℤ pos 2048000000) }
 {
     let mut falls = SetTable::new();
+    let mut parts = SetTable::new();
     for buyer in buyers {
-        buyer.falls(prices, &mut falls);
+        add_falls(buyer, prices, &mut falls, &mut parts);
     }
+    add_parts(&mut falls, parts, prices.len());
     falls
+}
+
+/// Adds what a member's function falls by: to the first table, or in parts, to be summed over subsets, to the second.
+fn add_falls<D: Convex>(
+    buyer: &D,
+    prices: &Prices,
+    falls: &mut SetTable,
+    parts: &mut SetTable,
+)
+    requires some { 1 ≤ D.size buyer.now }
+    requires prices { HaveRoom (D.size buyer.now) prices.now.items }
+    requires range { (set : ℕ) → set < 2 ^ suc (D.size buyer.now) → Lies 4000000000 (number_of falls.old set +ℤ fall_of (D.function buyer.now) (with_null prices.now.items) (members set)) }
+    requires small { sizes parts.old ≤ℤ pos 3996000000 }
+    ensures sums { (set : ℕ) → set < 2 ^ suc (D.size buyer.now) → number_of falls.new set +ℤ subset_sum parts.new set ≡ (number_of falls.old set +ℤ subset_sum parts.old set) +ℤ fall_of (D.function buyer.now) (with_null prices.now.items) (members set) }
+    ensures low { (set : ℕ) → number_of falls.old set ≤ℤ number_of falls.new set }
+    ensures high { (set : ℕ) → number_of falls.new set ≤ℤ (number_of falls.old set +ℤ D.weight buyer.now) }
+    ensures others { (set : ℕ) → 2 ^ suc (D.size buyer.now) ≤ set → number_of falls.new set ≡ number_of falls.old set }
+    ensures small { sizes parts.new ≤ℤ (sizes parts.old +ℤ pos 4000000) }
+{
+    if !buyer.falls_by_parts(prices, parts) {
+        buyer.falls(prices, falls);
+    }
+}
+
+/// Adds to the number of each set of the choices 0 to n the sum of the parts over its subsets; other numbers stay.
+fn add_parts(falls: &mut SetTable, mut parts: SetTable, n: usize)
+    requires choices { n ≤ 8 }
+    requires small { sizes parts ≤ℤ pos 4000000000 }
+    requires range { (set : ℕ) → set < 2 ^ suc n → Lies 4000000000 (number_of falls.old set +ℤ subset_sum parts set) }
+    ensures sums { (set : ℕ) → set < 2 ^ suc n → number_of falls.new set ≡ number_of falls.old set +ℤ subset_sum parts set }
+    ensures others { (set : ℕ) → 2 ^ suc n ≤ set → number_of falls.new set ≡ number_of falls.old set }
+{
+    parts.subset_sums(n);
+    for bits in 0..Set::whole(n).bits() + 1 {
+        let set = Set::from_bits(bits);
+        falls.add(set, parts.at(set));
+    }
 }
 
 /// The sum of the members' totals.
