@@ -13,8 +13,8 @@ use crate::copies::copy;
 use crate::long_step::long_step;
 use mix_law::Convex;
 use mix_market::Market;
-use mix_num::Prices;
-use mix_step::{Steps, least_step};
+use mix_num::{Prices, SetTable};
+use mix_step::{Steps, least_among};
 use std::sync::ledger::Ledger;
 
 /// The least point of the market's Lyapunov function among the prices at or above the start: the function is least there,
@@ -34,11 +34,13 @@ pub fn descend<D: Convex, L: Ledger>(
     ensures cost { (trail : List Long) × IsTrail (goods_of market.now) (lyapunov_of market.now) (with_null start.now.items) trail (with_null result.items) × (steps.new ≤ steps.old + length trail + 1) }
 {
     let mut prices = copy(start);
+    let mut slopes = SetTable::new();
+    market.slopes(&prices, &mut slopes);
     loop {
-        let step = least_step(market, &prices, steps);
+        let step = least_among(prices.len(), &slopes, steps);
         if step.set.bits() == 0 {
             return prices;
         }
-        long_step(market, &mut prices, step);
+        long_step(market, &mut prices, &mut slopes, step);
     }
 }

@@ -1,15 +1,16 @@
 // A long step: a set of goods rises for as long as its slope stays the same.
 ghost use Rattle.std.specs.Prelude.{◌≡◌, ◌≢◌, ◌↔◌, IsTrue};
 ghost use Rattle.mix_num.specs.Vectors.{Agree, members, with_null};
-ghost use Rattle.mix_num.specs.Ranges.{AreWithin, HaveRoom};
+ghost use Rattle.mix_num.specs.Ranges.{AreWithin};
 ghost use Rattle.mix_num.specs.Moves.{IsSetOfGoods};
+ghost use Rattle.mix_num.specs.Tables.{number_of};
 ghost use Rattle.mix_market.specs.Markets.{goods_of, lyapunov_of};
-ghost use Rattle.mix_market.specs.Steepest.{IsMinimalSteepest, slope_of};
+ghost use Rattle.mix_market.specs.Steepest.{AreSlopes, IsMinimalSteepest, slope_of};
 ghost use Rattle.mix_descent.specs.Trails.{IsLongStep, after};
 
 use mix_law::Convex;
 use mix_market::Market;
-use mix_num::{Prices, Set, raise};
+use mix_num::{Prices, Set, SetTable, raise};
 use mix_step::Step;
 
 /// A set of goods, by how much their prices rise together, and the slope of the Lyapunov function on the way.
@@ -25,8 +26,14 @@ pub struct LongStep {
 
 /// Raises the prices by the long step whose least step, which isn't empty, was found there.
 ///
-/// It searches for no set: while the slope of the set stays the same, the set is still the least step.
-pub(crate) fn long_step<D: Convex>(market: &Market<D>, prices: &mut Prices, step: Step) -> LongStep
+/// It searches for no set: while the slope of the set stays the same, the set is still the least step. In place of the slopes it was
+/// handed it leaves those at the new prices.
+pub(crate) fn long_step<D: Convex>(
+    market: &Market<D>,
+    prices: &mut Prices,
+    slopes: &mut SetTable,
+    step: Step,
+) -> LongStep
     requires range { AreWithin 1000000 (goods_of market.now) prices.old.items }
     requires goods { IsSetOfGoods (goods_of market.now) step.set }
     requires some { step.set ≢ 0 }
@@ -35,13 +42,15 @@ pub(crate) fn long_step<D: Convex>(market: &Market<D>, prices: &mut Prices, step
     ensures long { IsLongStep (goods_of market.now) (lyapunov_of market.now) (with_null prices.old.items) result }
     ensures prices { Agree (goods_of market.now) (with_null prices.new.items) (after (with_null prices.old.items) result) }
     ensures range { AreWithin 1000000 (goods_of market.now) prices.new.items }
+    ensures slopes { AreSlopes (goods_of market.now) (lyapunov_of market.now) (with_null prices.new.items) slopes.new }
 {
     let mut length = 0;
     loop {
         let reach = market.reach(prices, step.set);
         *prices = raise(prices, step.set, reach);
         length += reach;
-        if !has_slope(market, prices, step.set, step.slope) {
+        market.slopes(prices, slopes);
+        if !has_slope(slopes, step.set, step.slope) {
             return LongStep {
                 set: step.set,
                 length,
@@ -51,11 +60,9 @@ pub(crate) fn long_step<D: Convex>(market: &Market<D>, prices: &mut Prices, step
     }
 }
 
-/// Whether the set has this slope at the prices.
-fn has_slope<D: Convex>(market: &Market<D>, prices: &Prices, set: Set, slope: i64) -> bool
-    requires prices { HaveRoom (goods_of market.now) prices.now.items }
-    requires goods { IsSetOfGoods (goods_of market.now) set }
-    ensures { IsTrue result ↔ (slope_of (lyapunov_of market.now) (with_null prices.now.items) (members set) ≡ slope) }
+/// Whether the set has this slope.
+fn has_slope(slopes: &SetTable, set: Set, slope: i64) -> bool
+    ensures { IsTrue result ↔ (number_of slopes.now set ≡ slope) }
 {
-    market.slope(prices, set) == slope
+    slopes.at(set) == slope
 }

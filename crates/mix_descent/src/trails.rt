@@ -11,8 +11,8 @@ use crate::long_step::long_step;
 use crate::long_steps::LongSteps;
 use mix_law::Convex;
 use mix_market::Market;
-use mix_num::{Memory, Prices};
-use mix_step::{Steps, least_step};
+use mix_num::{Memory, Prices, SetTable};
+use mix_step::{Steps, least_among};
 use std::alloc::Global;
 use std::marker::Brand;
 use std::sync::ledger::{Blank, Ledger};
@@ -50,12 +50,14 @@ fn from_reserves<D: Convex, L: Ledger>(
     let mut counter = Steps::<L>::new(blank);
     let mut steps = LongSteps::new(alloc);
     let mut prices = copy(market.seller().reserve());
+    let mut slopes = SetTable::new();
+    market.slopes(&prices, &mut slopes);
     loop {
-        let step = least_step(market, &prices, &mut counter);
+        let step = least_among(prices.len(), &slopes, &mut counter);
         if step.set.bits() == 0 {
             return Ok(Climb { steps, prices });
         }
-        let long = long_step(market, &mut prices, step);
+        let long = long_step(market, &mut prices, &mut slopes, step);
         steps.push(long)?;
     }
 }

@@ -1,6 +1,8 @@
 -- The set of goods along which a function falls most when their prices rise by one.
-use Rattle.std.specs.Prelude.{◌≡◌, ℕ, ◌≤◌, true, false, ℤ, ◌-ℤ◌, ◌≤ℤ◌}
-use Rattle.mix_num.specs.Vectors.{Vector, Choices, plus}
+use Rattle.std.specs.Prelude.{◌≡◌, ℕ, ◌≤◌, true, false, List, ℤ, ◌-ℤ◌, ◌≤ℤ◌}
+use Rattle.mix_num.specs.Vectors.{Vector, Choices, members, plus}
+use Rattle.mix_num.specs.Moves.{IsSetOfGoods}
+use Rattle.mix_num.specs.Tables.{number_of}
 
 -- a set of goods alone: the null choice isn't in it
 abbrev pub IsGoods : Choices → Type 0
@@ -13,6 +15,10 @@ IsWithin n s t = (k : ℕ) → k ≤ n → s k ≡ true → t k ≡ true
 -- by how much l rises when each price of the set rises by one
 abbrev pub slope_of : (Vector → ℤ) → Vector → Choices → ℤ
 slope_of l p s = l (plus p s) -ℤ l p
+
+-- a table whose number of each set of goods is the slope along the set
+abbrev pub AreSlopes : ℕ → (Vector → ℤ) → Vector → List ℤ → Type 0
+AreSlopes n l p table = (set : ℕ) → IsSetOfGoods n set → number_of table set ≡ slope_of l p (members set)
 
 -- of all sets of goods, the empty one among them, s has the least slope, and lies within each other that does
 pub record IsMinimalSteepest (n : ℕ) (l : Vector → ℤ) (p : Vector) (s : Choices) : Type 0 where

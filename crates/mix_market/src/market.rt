@@ -29,7 +29,7 @@ impl<D: Convex> Market<D> {
     ghost use Rattle.mix_num.specs.Moves.{IsSetOfGoods};
     ghost use Rattle.mix_num.specs.Tables.{number_of};
     ghost use Rattle.mix_seller.specs.Sellers.{supply_of};
-    ghost use Rattle.mix_market.specs.Steepest.{slope_of};
+    ghost use Rattle.mix_market.specs.Steepest.{AreSlopes, slope_of};
     ghost use Rattle.mix_market.specs.Extremes.{greatest_of, least_of};
     ghost use Rattle.mix_market.specs.Memberships.{sum_of_totals};
     ghost use Rattle.mix_market.specs.Markets.{goods_of, lyapunov_of, members_of, seller_of};
@@ -106,7 +106,7 @@ impl<D: Convex> Market<D> {
     /// [`Market::slope`] of each set of goods; every other set gets 0.
     pub fn slopes(&self, prices: &Prices, out: &mut SetTable)
         requires { HaveRoom (goods_of self.now) prices.now.items }
-        ensures goods { (set : ℕ) → IsSetOfGoods (goods_of self.now) set → number_of out.new set ≡ slope_of (lyapunov_of self.now) (with_null prices.now.items) (members set) }
+        ensures goods { AreSlopes (goods_of self.now) (lyapunov_of self.now) (with_null prices.now.items) out.new }
         ensures others { (set : ℕ) → ¬ IsSetOfGoods (goods_of self.now) set → number_of out.new set ≡ pos 0 }
     {
         let falls = sums::falls(&self.members, prices);

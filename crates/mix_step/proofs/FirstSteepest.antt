@@ -1,26 +1,22 @@
 -- Of the steepest sets of goods the first by number lies within all others.
-use Rattle.std.proofs.Common.{◌≡◌, ℕ, ◌+◌, ◌*◌, ◌^◌, ◌/◌, ◌<◌, Bool, true, false, cond, ℤ, pos, ◌+ℤ◌, ◌≤ℤ◌, ◌<ℤ◌, int_lt, refl, arith, sym, ap, ap₂, ◌∙◌, subst, bit_and, pow-suc, pow_pos, add-one, eq-or-lt_of_le, below_more, ⊎_elim}
+use Rattle.std.proofs.Common.{◌≡◌, ℕ, ◌+◌, ◌*◌, ◌^◌, ◌/◌, ◌<◌, Bool, true, false, cond, List, ℤ, pos, ◌+ℤ◌, ◌≤ℤ◌, ◌<ℤ◌, int_lt, refl, arith, sym, ap, ap₂, ◌∙◌, subst, bit_and, pow-suc, pow_pos, add-one, eq-or-lt_of_le, below_more, ⊎_elim}
 use Rattle.std.proofs.lemmas.Int.{ints}
 use Rattle.mix_num.specs.Vectors.{Vector, Choices, bit, plus, members, both, either}
 use Rattle.mix_num.proofs.Masks.{mask_of, mask_below, mask_members, and_members, same_members}
 use Rattle.mix_law.specs.Members.{KeepsLocal}
 use Rattle.mix_law.proofs.Exchanges.{submodular_sets}
-use Rattle.mix_market.specs.Steepest.{IsMinimalSteepest, slope_of, IsGoods}
-use Rattle.mix_market.proofs.GoodsSets.{even_null, even_of}
+use Rattle.mix_market.specs.Steepest.{AreSlopes, IsMinimalSteepest, slope_of, IsGoods}
+use Rattle.mix_num.specs.Moves.{IsSetOfGoods}
+use Rattle.mix_num.specs.Tables.{number_of}
+use Rattle.mix_market.proofs.MarketLaws.{slope-none}
+use Rattle.mix_market.proofs.GoodsSets.{even_goods, even_null, even_of}
+use Rattle.mix_step.specs.First.{IsFirst}
 use Rattle.mix_step.specs.declared.step.Step.{Step}
 use Rattle.std.proofs.lemmas.Nat.{and_le_l}
 
 both_true : (a b : Bool) → a ≡ true → cond a b false ≡ true → b ≡ true
 both_true true b e f = f
 both_true false b e f = grind arith
-
--- of the sets of goods with the numbers 2, 4, .. below 2 * i and the empty set, this is the first with the least slope
-pub record IsFirst (n : ℕ) (slope_at : ℕ → ℤ) (i : ℕ) (set : ℕ) (slope : ℤ) : Type 0 where
-  pub small : set < 2 ^ (n + 1)
-  pub goods : members set 0 ≡ false
-  pub is : slope ≡ slope_at set
-  pub least : (k : ℕ) → k < i → slope ≤ℤ slope_at (2 * k)
-  pub first : (k : ℕ) → 2 * k < set → slope <ℤ slope_at (2 * k)
 
 -- the empty set alone
 pub first_none : (n : ℕ) (slope_at : ℕ → ℤ) (set : ℕ) → slope_at 0 ≡ pos 0 → set ≡ 0 → IsFirst n slope_at 1 set (pos 0)
@@ -104,3 +100,35 @@ only_one n l x a b small_a small_b p q =
     alike true b h k = sym (h refl)
     alike false true h k = k refl
     alike false false h k = refl
+
+-- what the first of a table of slopes is: the minimal steepest set of goods, and its slope
+pub record IsLeastStep (n : ℕ) (l : Vector → ℤ) (x : Vector) (set : ℕ) (slope : ℤ) : Type 0 where
+  pub minimal : IsMinimalSteepest n l x (members set)
+  pub goods : IsSetOfGoods n set
+  pub is : slope ≡ slope_of l x (members set)
+
+pub least_of_slopes : {n : ℕ} {l : Vector → ℤ} {w : ℤ} → KeepsLocal n l w → (x : Vector) (table : List ℤ) (m set : ℕ) (slope : ℤ) → m ≡ n → AreSlopes n l x table → IsFirst m (number_of table) (2 ^ m) set slope → IsLeastStep n l x set slope
+least_of_slopes {n} {l} keeps x table m set slope same told first = record {
+  minimal = first_steepest keeps x set slope (record {
+    small = b.small;
+    goods = b.goods;
+    is = is;
+    least = λ k h. let e = told (2 * k) (even_goods n k h) in let u = b.least k h in omega (arith, ints);
+    first = λ k h. let power = ap (λ (i : ℕ). 2 ^ i) (add-one n) ∙ pow-suc 2 n in let e = told (2 * k) (even_goods n k (omega (arith, b.small))) in let u = b.first k h in omega (arith, ints);
+  });
+  goods = goods;
+  is = is;
+}
+  where
+    b : IsFirst n (number_of table) (2 ^ n) set slope
+    b = subst (λ (k : ℕ). IsFirst k (number_of table) (2 ^ k) set slope) same first
+
+    goods : IsSetOfGoods n set
+    goods = (b.small, b.goods)
+
+    is : slope ≡ slope_of l x (members set)
+    is = b.is ∙ told set goods
+
+-- the empty set has the slope 0
+pub no_slope : {n : ℕ} {l : Vector → ℤ} {w : ℤ} → KeepsLocal n l w → (x : Vector) (table : List ℤ) → AreSlopes n l x table → number_of table 0 ≡ pos 0
+no_slope {n} keeps x table told = told 0 (even_goods n 0 (pow_pos n)) ∙ slope-none keeps x

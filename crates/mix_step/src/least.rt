@@ -1,10 +1,12 @@
 // The search for the least step.
-ghost use Rattle.std.specs.Prelude.{◌≡◌, ℕ, ◌+◌, cond, int_lt};
+ghost use Rattle.std.specs.Prelude.{◌≡◌, ℕ, ◌≤◌, ◌+◌, ◌^◌, pos, cond, int_lt};
 ghost use Rattle.mix_num.specs.Vectors.{members, with_null};
 ghost use Rattle.mix_num.specs.Ranges.{HaveRoom};
 ghost use Rattle.mix_num.specs.Moves.{IsSetOfGoods};
 ghost use Rattle.mix_market.specs.Markets.{goods_of, lyapunov_of};
 ghost use Rattle.mix_market.specs.Steepest.{IsMinimalSteepest, slope_of};
+ghost use Rattle.mix_num.specs.Tables.{number_of};
+ghost use Rattle.mix_step.specs.First.{IsFirst};
 
 use crate::{Step, Steps};
 use mix_law::Convex;
@@ -26,16 +28,27 @@ pub fn least_step<D: Convex, L: Ledger>(
     ensures slope { result.slope ≡ slope_of (lyapunov_of market.now) (with_null prices.now.items) (members result.set) }
     ensures cost { steps.new ≡ steps.old + 1 }
 {
-    steps.tick();
     let mut slopes = SetTable::new();
     market.slopes(prices, &mut slopes);
+    least_among(prices.len(), &slopes, steps)
+}
+
+/// The least step of a table that has the slope of each set of 1 to 8 goods: the first of the sets with the least slope. It counts
+/// as one step.
+pub fn least_among<L: Ledger>(goods: usize, slopes: &SetTable, steps: &mut Steps<L>) -> Step
+    requires goods { goods ≤ 8 }
+    requires none { number_of slopes.now 0 ≡ pos 0 }
+    ensures first { IsFirst goods (number_of slopes.now) (2 ^ goods) result.set result.slope }
+    ensures cost { steps.new ≡ steps.old + 1 }
+{
+    steps.tick();
     let mut best = Step {
         set: Set::from_bits(0),
         slope: 0,
     };
     // The sets of goods are the even numbers. A set comes after those within it, so the first of the steepest sets lies within
     // the others.
-    for half in 1..Set::goods(prices.len()).bits() / 2 + 1 {
+    for half in 1..Set::goods(goods).bits() / 2 + 1 {
         let set = Set::from_bits(2 * half);
         let slope = slopes.at(set);
         best = steeper(best, Step { set, slope });

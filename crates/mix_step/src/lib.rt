@@ -5,7 +5,7 @@ mod least;
 mod step;
 mod steps;
 
-pub use least::least_step;
+pub use least::{least_among, least_step};
 pub use step::Step;
 pub use steps::Steps;
 

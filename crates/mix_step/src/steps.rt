@@ -4,7 +4,8 @@ ghost use Rattle.std.specs.Prelude.{◌≡◌, ◌+◌, ◌<◌};
 use std::marker::Model;
 use std::sync::ledger::{Blank, Book, Ledger, Share};
 
-/// How many least steps were asked for. It takes no bytes, and only [`least_step`](crate::least_step) adds to it.
+/// How many least steps were asked for. It takes no bytes, and only [`least_step`](crate::least_step) and
+/// [`least_among`](crate::least_among) add to it.
 #[derive(Drop)]
 pub struct Steps<L: Ledger> {
     book: Book<L>,

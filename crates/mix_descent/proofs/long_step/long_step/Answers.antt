@@ -37,8 +37,8 @@ overflow_add-length g c =
     let same : to_z w64 (of_z w64 c.reach-reach.result) ≡ c.reach-reach.result = omega (arith, ints) in
     omega (arith, ints)
 
-pub has_slope-requires-clause-prices : goal.has_slope-requires-clause-prices
-has_slope-requires-clause-prices g c =
+pub slopes-requires : goal.slopes-requires
+slopes-requires g c =
     let market = c.args.market.now in
     let s = members c.args.step.set in
     let reach = to_z w64 (of_z w64 c.reach-reach.result) in
@@ -64,7 +64,7 @@ returns-then-not-has_slope-clause-long g c =
     let slope : to_z w64 (of_z w64 c.args.step.slope) ≡ c.args.step.slope = omega (arith, ints) in
     subst (λ (z : ℤ). IsLongStep (goods_of market) (lyapunov_of market) (with_null c.args.prices.now.items) (record { set = c.args.step.set; length = length; slope = z })) (sym slope)
     (way_end (market_keeps market) (with_null c.args.prices.now.items) (record { set = c.args.step.set; length = length; slope = c.args.step.slope }) (with_null c.raise.result.items) c.requires.goods c.requires.some c.requires.minimal c.requires.slope came
-    (λ q. false≢true (sym c.if-not-has_slope.true ∙ c.has_slope.ensures.1 (q ∙ sym slope))))
+    (λ q. false≢true (sym c.if-not-has_slope.true ∙ c.has_slope.ensures.1 (c.slopes.ensures.goods c.args.step.set c.requires.goods ∙ q ∙ sym slope))))
 
 pub returns-then-not-has_slope-clause-prices : goal.returns-then-not-has_slope-clause-prices
 returns-then-not-has_slope-clause-prices g c =
@@ -127,5 +127,5 @@ loop-step-preserved g c =
     let slope : to_z w64 (of_z w64 c.args.step.slope) ≡ c.args.step.slope = omega (arith, ints) in
     record {
       range = moved_within _ _ _ s reach (omega (arith, ints)) c.loop-step.invariant.range c.raise.ensures.goods c.raise.ensures.prices low;
-      way = way_on (market_keeps market) _ _ _ _ _ came (c.has_slope.ensures.0 c.if-not-has_slope.false ∙ slope);
+      way = way_on (market_keeps market) _ _ _ _ _ came (sym (c.slopes.ensures.goods c.args.step.set c.requires.goods) ∙ c.has_slope.ensures.0 c.if-not-has_slope.false ∙ slope);
     }

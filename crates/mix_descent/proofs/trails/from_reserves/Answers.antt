@@ -8,19 +8,21 @@ use Rattle.mix_market.proofs.MarketLaws.{slope-none}
 use Rattle.mix_market.proofs.MarketFacts.{market_keeps, reserves_within}
 use Rattle.mix_descent.specs.Trails.{AreLongSteps}
 use Rattle.mix_descent.specs.declared.long_step.LongStep.{LongStep}
+use Rattle.mix_step.proofs.FirstSteepest.{least_of_slopes, no_slope}
 use Rattle.mix_descent.proofs.Climbs.{start_best, end_least}
 use Rattle.mix_descent.proofs.Landings.{long_smaller}
 use Rattle.mix_descent.proofs.TrailFacts.{no_steps, one_more, long_best}
 use Rattle.mix_descent.proofs.trails.from_reserves.Goals as goal
 
-pub loop-step-init : goal.loop-step-init
-loop-step-init g c =
+pub loop-slopes-init : goal.loop-slopes-init
+loop-slopes-init g c =
     let market = c.args.market.now in
     let n = goods_of market in
     let l = lyapunov_of market in
     let same : reserves_of market ≡ c.copy-prices.result.items = sym (c.copy-prices.ensures ∙ c.reserve.ensures.value ∙ ap (λ z. z.reserve.items) c.seller.ensures) in
     record {
       range = subst (AreWithin 1000000 n) same (reserves_within market);
+      slopes = c.slopes.ensures.goods;
       best = start_best (market_keeps market) _ _ (λ k h. ap (λ (z : List ℤ). with_null z k) same);
       way = subst (λ (z : List LongStep). AreLongSteps n l (with_null (reserves_of market)) z (with_null c.copy-prices.result.items)) (sym c.new-steps.ensures) (no_steps n l _ _ (λ k h. ap (λ (z : List ℤ). with_null z k) (sym same)));
     }
@@ -28,32 +30,39 @@ loop-step-init g c =
 pub returns-then-bits-eq0-clause-least : goal.returns-then-bits-eq0-clause-least
 returns-then-bits-eq0-clause-least g c =
     let market = c.args.market.now in
-    let x = with_null c.loop-step.prices.items in
-    let empty : c.least_step-step.result.set ≡ 0 = sym c.bits.ensures.value ∙ c.if-bits-eq0.true in
+    let x = with_null c.loop-slopes.prices.items in
+    let empty : c.least_among-step.result.set ≡ 0 = sym c.bits.ensures.value ∙ c.if-bits-eq0.true in
     let none = ap (λ (set : ℕ). slope_of (lyapunov_of market) x (members set)) empty ∙ slope-none (market_keeps market) x in
-    end_least (market_keeps market) _ x c.loop-step.invariant.best refl (λ t h. let up = c.least_step-step.ensures.minimal.steepest t h in omega (arith, ints))
+    end_least (market_keeps market) _ x c.loop-slopes.invariant.best refl (λ t h. let up = (least_of_slopes (market_keeps c.args.market.now) (with_null c.loop-slopes.prices.items) c.loop-slopes.slopes _ _ _ (c.len.ensures.value ∙ c.loop-slopes.invariant.range.0) c.loop-slopes.invariant.slopes c.least_among-step.ensures.first).minimal.steepest t h in let is = (least_of_slopes (market_keeps c.args.market.now) (with_null c.loop-slopes.prices.items) c.loop-slopes.slopes _ _ _ (c.len.ensures.value ∙ c.loop-slopes.invariant.range.0) c.loop-slopes.invariant.slopes c.least_among-step.ensures.first).is in omega (arith, ints))
 
 pub returns-then-bits-eq0-clause-trail : goal.returns-then-bits-eq0-clause-trail
 returns-then-bits-eq0-clause-trail g c =
     let market = c.args.market.now in
-    let x = with_null c.loop-step.prices.items in
-    let empty : c.least_step-step.result.set ≡ 0 = sym c.bits.ensures.value ∙ c.if-bits-eq0.true in
-    record { chained = c.loop-step.invariant.way; ends = subst (λ (set : ℕ). IsMinimalSteepest (goods_of market) (lyapunov_of market) x (members set)) empty c.least_step-step.ensures.minimal }
+    let x = with_null c.loop-slopes.prices.items in
+    let empty : c.least_among-step.result.set ≡ 0 = sym c.bits.ensures.value ∙ c.if-bits-eq0.true in
+    record { chained = c.loop-slopes.invariant.way; ends = subst (λ (set : ℕ). IsMinimalSteepest (goods_of market) (lyapunov_of market) x (members set)) empty (least_of_slopes (market_keeps c.args.market.now) (with_null c.loop-slopes.prices.items) c.loop-slopes.slopes _ _ _ (c.len.ensures.value ∙ c.loop-slopes.invariant.range.0) c.loop-slopes.invariant.slopes c.least_among-step.ensures.first).minimal }
+
+pub least_among-step-requires-clause-none : goal.least_among-step-requires-clause-none
+least_among-step-requires-clause-none g c = no_slope (market_keeps c.args.market.now) (with_null c.loop-slopes.prices.items) c.loop-slopes.slopes c.loop-slopes.invariant.slopes
 
 pub long_step-long-requires-clause-some : goal.long_step-long-requires-clause-some
 long_step-long-requires-clause-some g c = λ e. c.if-bits-eq0.false (c.bits.ensures.value ∙ e)
 
-pub loop-step-smaller : goal.loop-step-smaller
-loop-step-smaller g c = long_smaller c.args.market.now (with_null c.loop-step.prices.items) _ _ refl c.long_step-long.ensures.long c.long_step-long.ensures.prices
+pub long_step-long-requires-clause-minimal : goal.long_step-long-requires-clause-minimal
+long_step-long-requires-clause-minimal g c = (least_of_slopes (market_keeps c.args.market.now) (with_null c.loop-slopes.prices.items) c.loop-slopes.slopes _ _ _ (c.len.ensures.value ∙ c.loop-slopes.invariant.range.0) c.loop-slopes.invariant.slopes c.least_among-step.ensures.first).minimal
 
-pub loop-step-preserved : goal.loop-step-preserved
-loop-step-preserved g c =
+pub loop-slopes-smaller : goal.loop-slopes-smaller
+loop-slopes-smaller g c = long_smaller c.args.market.now (with_null c.loop-slopes.prices.items) _ _ refl c.long_step-long.ensures.long c.long_step-long.ensures.prices
+
+pub loop-slopes-preserved : goal.loop-slopes-preserved
+loop-slopes-preserved g c =
     let market = c.args.market.now in
-    let x = with_null c.loop-step.prices.items in
+    let x = with_null c.loop-slopes.prices.items in
     let long = c.long_step-long.ensures.long in
     let there = c.long_step-long.ensures.prices in
     record {
       range = c.long_step-long.ensures.range;
-      best = long_best (market_keeps market) _ x _ _ c.loop-step.invariant.best long there;
-      way = subst (λ (z : List LongStep). AreLongSteps (goods_of market) (lyapunov_of market) (with_null (reserves_of market)) z (with_null c.long_step-long.new.prices.items)) (sym c.in_ok-push.ensures.ok) (one_more (market_keeps market) _ x _ _ _ c.loop-step.invariant.way long there);
+      slopes = c.long_step-long.ensures.slopes;
+      best = long_best (market_keeps market) _ x _ _ c.loop-slopes.invariant.best long there;
+      way = subst (λ (z : List LongStep). AreLongSteps (goods_of market) (lyapunov_of market) (with_null (reserves_of market)) z (with_null c.long_step-long.new.prices.items)) (sym c.in_ok-push.ensures.ok) (one_more (market_keeps market) _ x _ _ _ c.loop-slopes.invariant.way long there);
     }
