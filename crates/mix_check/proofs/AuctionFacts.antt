@@ -1,5 +1,5 @@
 -- What holds of each bidder of an auction and of each share of an answer of its shape.
-use Rattle.std.proofs.Common.{◌≡◌, ℕ, suc, ◌<◌, ℤ, pos, ◌≤ℤ◌, List, [], ◌∷◌, length, get_or, sym, ◌∙◌, subst, arith}
+use Rattle.std.proofs.Common.{◌≡◌, ℕ, suc, ◌<◌, ℤ, pos, ◌≤ℤ◌, List, [], ◌∷◌, length, get_or, sym, ap, ◌∙◌, subst, arith}
 use Rattle.std.proofs.lemmas.Int.{ints}
 use Rattle.std.proofs.lemmas.List.{get_or-map, length-map}
 use Rattle.std.proofs.lemmas.List.Elements.{All-get_or}
@@ -13,10 +13,8 @@ use Rattle.mix_num.proofs.Orders.{in-places}
 use Rattle.mix_law.specs.Members.{KeepsLaws}
 use Rattle.mix_clearing.specs.Clearings.{bidder_utility}
 use Rattle.mix_clearing.specs.Utilities.{KeepLaws}
-use Rattle.mix_bids.specs.Bids.{Book, top_value, total_weight, utility}
-use Rattle.mix_bids.proofs.Lengths.{over_of}
-use Rattle.mix_validity.specs.Laws.{valid_convex}
-use Rattle.mix_validity.proofs.ConvexLists.{convex_exactly}
+use Rattle.mix_bids.specs.Bids.{Book, utility}
+use Rattle.mix_validity.proofs.ListLaws.{list_keeps_laws}
 use Rattle.mix_text.specs.Auctions.{AuctionText, IsAuction, IsBook}
 use Rattle.mix_text.specs.Bidders.{list_at}
 use Rattle.mix_answer.specs.Refusals.{AreConvex}
@@ -54,14 +52,8 @@ utility-at a k l = get_or-map (λ (bidder : List ℕ × Book). utility bidder.1.
 -- utilities of convex lists keep the laws of members
 pub laws-at : (a : AuctionText) → IsAuction a → AreConvex a.bidders → (k : ℕ) → k < length a.bidders → KeepsLaws (length a.goods) (bidder_utility (utilities_of a.bidders) k)
 laws-at a sound convex k l =
-    let book : Book = list_at a.bidders k in
     let is = book_at a sound k l in
-    let law : KeepsLaws (length a.goods) (utility book.bids) = record {
-      total = total_weight book.bids;
-      top = top_value book.bids;
-      convex = valid_convex (length a.goods) book.bids is.bids ((convex_exactly (length a.goods) book.bids (over_of (length a.goods) book.bids is.bids)).0 (convex k l));
-    } in
-    subst (λ (f : Vector → ℤ). KeepsLaws (length a.goods) f) (sym (utility-at a k l)) law
+    subst (λ (f : Vector → ℤ). KeepsLaws (length a.goods) f) (sym (utility-at a k l)) (list_keeps_laws (length a.goods) (list_at a.bidders k).bids is.bids is.few (convex k l)).laws
 
 pub laws : (a : AuctionText) → IsAuction a → AreConvex a.bidders → KeepLaws (length a.supply) (utilities_of a.bidders)
 laws a sound convex k l =
@@ -90,6 +82,10 @@ pub bundle-amounts : (a : AuctionText) (answer : Answer) → HasAnswerShape a an
 bundle-amounts a answer shape k l =
     let d : Share = record { bundle = record { items = [] }; payment = pos 0 } in
     subst (AreAmounts (length a.goods)) (sym (bundle-at a answer shape k d l)) (share-at a answer shape k d l).bundle
+
+-- the share that is read has the bidder's bundle
+pub bundle-read : (a : AuctionText) (answer : Answer) → HasAnswerShape a answer → (k : ℕ) (share : Share) → k < length a.bidders → share ≡ get_or answer.shares k share → share.bundle.items ≡ bundle_of answer k
+bundle-read a answer shape k share l read = ap (λ (s : Share). s.bundle.items) read ∙ sym (bundle-at a answer shape k share l)
 
 -- together they have nothing less than nothing
 given-some : (bundles : List (List ℤ)) (i : ℕ) → ((k : ℕ) → k < length bundles → pos 0 ≤ℤ get_or (get_or bundles k []) i (pos 0)) → pos 0 ≤ℤ sum_at bundles i

@@ -2,7 +2,7 @@
 use Rattle.std.proofs.Common.{◌≡◌, ℕ, suc, ◌^◌, ◌+◌, ◌≤◌, ◌<◌, ◌≤ℤ◌, ◌<ℤ◌, ℤ, List, [], ◌∷◌, ◌++◌, length, get_or, refl, sym, ap, ◌∙◌, subst, arith, ⊎_elim, eq-or-lt_of_le, length-append}
 use Rattle.std.proofs.Math.Seq.{get_or-append_seam}
 use Rattle.std.proofs.lemmas.Bool.{cases_lt}
-use Rattle.std.proofs.lemmas.List.{get_or_append_left}
+use Rattle.std.proofs.lemmas.List.{get_or_append_left, get_or_default}
 use Rattle.mix_num.specs.Vectors.{Vector}
 use Rattle.mix_num.specs.Tables.{Fits, IsProper, number_of, share_in}
 use Rattle.mix_law.specs.Demands.{IsDemanded, IsTableOf, table_of}
@@ -16,17 +16,27 @@ use Rattle.mix_answer.specs.Refusals.{AreConvex}
 use Rattle.mix_answer.specs.Shapes.{HasAnswerShape}
 use Rattle.mix_answer.specs.Utilities.{utilities_of}
 use Rattle.mix_answer.specs.declared.outcome.Answer.{Answer}
+use Rattle.mix_answer.specs.declared.share.Share.{Share}
 use Rattle.mix_check.specs.Reasons.{IsOverDemand, bundle_of}
 use Rattle.mix_check.specs.Tests.{AreTablesOfFirst}
-use Rattle.mix_check.proofs.AuctionFacts.{book_at, bundle-amounts, laws-at, utility-at}
+use Rattle.mix_check.proofs.AuctionFacts.{book_at, bundle-amounts, bundle-read, laws-at, utility-at}
 
 module _ (a : AuctionText) (answer : Answer) (sound : IsAuction a) (shape : HasAnswerShape a answer) (convex : AreConvex a.bidders) (k : ℕ) (l : k < length a.bidders)
-    (table bundle : List ℤ) (own : bundle ≡ bundle_of answer k) (is : IsTableOf (length a.goods) (bidder_utility (utilities_of a.bidders) k) answer.prices.items table) where
+    (tables : List (List ℤ)) (are : AreTablesOfFirst a answer.prices.items (length a.bidders) tables) (table : List ℤ) (read : table ≡ get_or tables k table) (share : Share) (got : share ≡ get_or answer.shares k share) where
   abbrev n : ℕ
   n = length a.goods
 
   abbrev f : Vector → ℤ
   f = bidder_utility (utilities_of a.bidders) k
+
+  abbrev bundle : List ℤ
+  bundle = share.bundle.items
+
+  own : bundle ≡ bundle_of answer k
+  own = bundle-read a answer shape k share l got
+
+  is : IsTableOf n f answer.prices.items table
+  is = let count = are.count in subst (λ (t : List ℤ). IsTableOf n f answer.prices.items t) (sym (read ∙ get_or_default tables k table [] (omega (arith, l, count)))) (are.are k l)
 
   size : length bundle ≡ n
   size = ap (λ (xs : List ℤ). length xs) own ∙ (bundle-amounts a answer shape k l).0

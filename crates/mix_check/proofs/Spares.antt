@@ -1,9 +1,9 @@
 -- What is left of the supply, less all that the members still to come can take: turn by turn, it grows by a bidder's table, which leaves what must
 -- be given to the bidder, and falls by its bundle.
-use Rattle.std.proofs.Common.{◌≡◌, ℕ, zero, suc, ◌+◌, ◌*◌, ◌^◌, ◌≤◌, ◌<◌, ℤ, pos, ◌+ℤ◌, ◌-ℤ◌, List, [], ◌∷◌, ◌++◌, map, length, get_or, take, sym, ap, ap₂, ◌∙◌, subst, arith, length-append}
+use Rattle.std.proofs.Common.{◌≡◌, ℕ, zero, suc, ◌+◌, ◌*◌, ◌^◌, ◌<◌, ℤ, pos, ◌+ℤ◌, ◌-ℤ◌, List, [], ◌∷◌, ◌++◌, map, length, get_or, take, sym, ap, ap₂, ◌∙◌, subst, arith, length-append}
 use Rattle.std.proofs.Math.Seq.{drop-cons}
 use Rattle.std.proofs.lemmas.Int.{ints}
-use Rattle.std.proofs.lemmas.List.{ext_get_or, get_or-map, get_or_append_left, length-map}
+use Rattle.std.proofs.lemmas.List.{ext_get_or, get_or-map, get_or_append_left, get_or_default, length-map}
 use Rattle.mix_num.specs.Sellers.{seller_gain}
 use Rattle.mix_num.specs.Sums.{sum_in}
 use Rattle.mix_num.specs.Shares.{sum_at, supply_null}
@@ -19,11 +19,13 @@ use Rattle.mix_answer.specs.Shapes.{HasAnswerShape}
 use Rattle.mix_answer.specs.Truths.{bundles_of, order_of}
 use Rattle.mix_answer.specs.Utilities.{utilities_of}
 use Rattle.mix_answer.specs.declared.outcome.Answer.{Answer}
+use Rattle.mix_answer.specs.declared.share.Share.{Share}
 use Rattle.mix_check.specs.declared.tables.Tables.{Tables}
 use Rattle.mix_check.specs.Tests.{AreTablesAt, AreTablesOfFirst, HaveSums, IsTurn, LieWithin, rows_of, spare_at}
-use Rattle.mix_check.proofs.TableSums.{number-range, rows-sum}
+use Rattle.mix_check.proofs.TableSums.{number-range, proper-read, rows-sum}
 use Rattle.mix_check.proofs.WordSums.{lies-wider}
-use Rattle.mix_check.proofs.AuctionFacts.{in-order_of, length-bundles, length-utilities}
+use Rattle.mix_check.specs.Reasons.{bundle_of}
+use Rattle.mix_check.proofs.AuctionFacts.{bundle-amounts, bundle-read, in-order_of, length-bundles, length-utilities}
 
 -- ---- plain lists
 -- before the first turn nothing is given
@@ -62,26 +64,30 @@ pub spare-take : (n : ℕ) (rows : List (List ℤ)) (supply : List ℤ) (bundles
 spare-take n rows supply bundles k set l h = let a = shares-more n rows bundles k set l h in omega (arith, ints, a)
 
 -- ---- ranges of what is kept, turn by turn
-pub few-bidders : (k m : ℕ) → k < m → m ≤ 256 → k < 256
-few-bidders k m l h = omega (arith, l, h)
+-- before the turn of the k-th bidder
+abbrev pub LieBefore : ℕ → ℕ → List ℤ → Type 0
+LieBefore n k spare = LieWithin n (9000000000 + 150000000 * k) spare
 
-pub start-range : (n k : ℕ) (spare : List ℤ) → LieWithin n (9000000000 + 150000000 * k) spare → k < 256 → LieWithin n 4000000000000 spare
+start-range : (n k : ℕ) (spare : List ℤ) → LieBefore n k spare → k < 256 → LieWithin n 4000000000000 spare
 start-range n k spare lies few set l = lies-wider (9000000000 + 150000000 * k) 4000000000000 (number_of spare set) (omega (arith, few)) (lies set l)
 
-pub give-range : (n k : ℕ) (table spare now : List ℤ) → IsProper n table → k < 256 → LieWithin n (9000000000 + 150000000 * k) spare
-    → ((set : ℕ) → set < length table → number_of now set ≡ number_of spare set +ℤ number_of table set) → LieWithin n 4000000000000 now
+give-range : (n k : ℕ) (table spare now : List ℤ) → IsProper n table → k < 256 → LieBefore n k spare
+    → ((set : ℕ) → set < 2 ^ suc n → number_of now set ≡ number_of spare set +ℤ number_of table set) → LieWithin n 4000000000000 now
 give-range n k table spare now proper few lies is set l =
-    let size = proper.size in
     let own = number-range n table proper set l in
     let old = lies set l in
-    let e = is set (omega (arith, l, size)) in
+    let e = is set l in
     (omega (arith, ints, own, old, e, few), omega (arith, ints, own, old, e, few))
 
-pub take-range : (k : ℕ) (spare number given now : ℤ) (n : ℕ) (table : List ℤ) (set : ℕ) → IsProper n table → set < 2 ^ suc n → number ≡ number_of table set
-    → Lies (9000000000 + 150000000 * k) spare → given ≡ spare +ℤ number → Lies 140000000 (given -ℤ now) → Lies (9000000000 + 150000000 * (k + 1)) now
-take-range k spare number given now n table set proper l is old e near =
+take-range : (n k : ℕ) (table spare given now : List ℤ) → IsProper n table → LieBefore n k spare
+    → ((set : ℕ) → set < 2 ^ suc n → number_of given set ≡ number_of spare set +ℤ number_of table set)
+    → ((set : ℕ) → set < 2 ^ suc n → Lies 140000000 (number_of given set -ℤ number_of now set)) → LieBefore n (k + 1) now
+take-range n k table spare given now proper lies is near set l =
     let own = number-range n table proper set l in
-    (omega (arith, ints, own, is, old, e, near), omega (arith, ints, own, is, old, e, near))
+    let old = lies set l in
+    let e = is set l in
+    let m = near set l in
+    (omega (arith, ints, own, old, e, m), omega (arith, ints, own, old, e, m))
 
 -- ---- the tables of an auction
 mapped : (a : AuctionText) (prices : List ℤ) → length (map (λ f. table_of (length a.supply) f prices) (utilities_of a.bidders)) ≡ length a.bidders
@@ -136,18 +142,67 @@ take-turn n tables supply bundles k set table bundle l h own is size spare given
     let share = ap (λ (m : ℕ). share_in m table bundle set) size ∙ ap₂ (λ (t b : List ℤ). share_in n t b set) (own ∙ sym (row-at tables k l)) is in
     omega (arith, ints, needed, take, share, g)
 
--- the turn of a bidder
-pub turn-at : (a : AuctionText) (answer : Answer) (tables : Tables) (k : ℕ) (table floor : List ℤ) → IsAuction a → HasAnswerShape a answer → AreTablesAt a answer.prices.items tables → k < length a.bidders
-    → table ≡ get_or tables.bidders.items k []
-    → ((set : ℕ) → set < 2 ^ suc (length a.goods) → number_of floor set ≡ floor_at (length a.goods) (rows_of tables) a.supply (bundles_of answer) k set)
-    → IsTurn a answer k table floor
-turn-at a answer tables k table floor sound shape are l own needed =
-    let rows = rows-are a answer.prices.items tables sound are in
-    let bundles = in-order_of a (bundles_of answer) (length-bundles a answer shape) in
-    let size = are.bidders.count in
-    record {
-      own = own ∙ sym (row-at tables k (omega (arith, l, size))) ∙ ap (λ (rs : List (List ℤ)). get_or rs k []) (sym rows);
-      needed = λ set h.
-          needed set h
-          ∙ ap₂ (λ (rs bs : List (List ℤ)). floor_at (length a.goods) rs a.supply bs k set) (sym rows) (sym bundles);
-    }
+-- ---- the turn of a bidder, from the table and the share that are read
+module _ (a : AuctionText) (answer : Answer) (tables : Tables) (sound : IsAuction a) (shape : HasAnswerShape a answer) (are : AreTablesAt a answer.prices.items tables) (k : ℕ) (l : k < length a.bidders)
+    (table : List ℤ) (read : table ≡ get_or tables.bidders.items k table) where
+  abbrev n : ℕ
+  n = length a.goods
+
+  within : k < length tables.bidders.items
+  within = let e = are.bidders.count in omega (arith, l, e)
+
+  pub own-table : table ≡ get_or tables.bidders.items k []
+  own-table = read ∙ get_or_default tables.bidders.items k table [] within
+
+  pub own-proper : IsProper n table
+  own-proper = proper-read n tables.bidders.items are.sums.proper k table within read
+
+  few : k < 256
+  few = let most = sound.few_bidders in omega (arith, l, most)
+
+  module _ (spare : List ℤ) (lies : LieBefore n k spare) where
+    pub give-room : (set : ℕ) → set < length table → Lies 4000000000000 (number_of spare set)
+    give-room set h = start-range n k spare lies few set (subst (λ (m : ℕ). set < m) own-proper.size h)
+
+    module _ (left : (set : ℕ) → set < 2 ^ suc n → number_of spare set ≡ spare_at n (rows_of tables) a.supply (bundles_of answer) k set)
+        (given : List ℤ) (gave : (set : ℕ) → set < length table → number_of given set ≡ number_of spare set +ℤ number_of table set) where
+      gave-each : (set : ℕ) → set < 2 ^ suc n → number_of given set ≡ number_of spare set +ℤ number_of table set
+      gave-each set h = gave set (subst (λ (m : ℕ). set < m) (sym own-proper.size) h)
+
+      -- with its table given back
+      pub turn-at : length given ≡ 512 → IsTurn a answer k table given
+      turn-at room =
+          let rows = rows-are a answer.prices.items tables sound are in
+          let bundles = in-order_of a (bundles_of answer) (length-bundles a answer shape) in
+          record {
+            own = own-table ∙ sym (row-at tables k within) ∙ ap (λ (rs : List (List ℤ)). get_or rs k []) (sym rows);
+            needed = λ set h.
+                give-turn n tables a.supply (bundles_of answer) k set table within own-table (number_of spare set) (number_of given set) (left set h) (gave-each set h)
+                ∙ ap₂ (λ (rs bs : List (List ℤ)). floor_at n rs a.supply bs k set) (sym rows) (sym bundles);
+            size = own-proper.size;
+            room = room;
+            range = give-range n k table spare given own-proper few lies gave-each;
+          }
+
+      module _ (share : Share) (got : share ≡ get_or answer.shares k share) where
+        own-bundle : share.bundle.items ≡ bundle_of answer k
+        own-bundle = bundle-read a answer shape k share l got
+
+        size : length share.bundle.items ≡ n
+        size = ap (λ (xs : List ℤ). length xs) own-bundle ∙ (bundle-amounts a answer shape k l).0
+
+        pub take-proper : IsProper (length share.bundle.items) table
+        take-proper = subst (λ (m : ℕ). IsProper m table) (sym size) own-proper
+
+        pub take-room : LieWithin (length share.bundle.items) 4000000000000 given
+        take-room = subst (λ (m : ℕ). LieWithin m 4000000000000 given) (sym size) (give-range n k table spare given own-proper few lies gave-each)
+
+        -- and its bundle taken
+        pub turn-done : (now : List ℤ) → ((set : ℕ) → set < 2 ^ suc (length share.bundle.items) → number_of now set ≡ number_of given set -ℤ share_in (length share.bundle.items) table share.bundle.items set)
+            → (set : ℕ) → set < 2 ^ suc n → number_of now set ≡ spare_at n (rows_of tables) a.supply (bundles_of answer) (suc k) set
+        turn-done now took set h =
+            take-turn n tables a.supply (bundles_of answer) k set table share.bundle.items within (let e = length-bundles a answer shape in omega (arith, l, e)) own-table own-bundle size
+            (number_of spare set) (number_of given set) (number_of now set) (left set h) (gave-each set h) (took set (subst (λ (m : ℕ). set < 2 ^ suc m) (sym size) h))
+
+        pub turn-range : (now : List ℤ) → ((set : ℕ) → set < 2 ^ suc (length share.bundle.items) → Lies 140000000 (number_of given set -ℤ number_of now set)) → LieBefore n (k + 1) now
+        turn-range now near = take-range n k table spare given now own-proper lies gave-each (subst (λ (m : ℕ). (set : ℕ) → set < 2 ^ suc m → Lies 140000000 (number_of given set -ℤ number_of now set)) size near)

@@ -1,7 +1,8 @@
 -- Sums of the bidders' tables: their range, and by how much the Lyapunov function rises where the prices of a set fall by one.
-use Rattle.std.proofs.Common.{◌≡◌, ℕ, zero, suc, ◌+◌, ◌-◌, ◌*◌, ◌^◌, ◌<◌, Bool, true, false, cond, ℤ, pos, ◌+ℤ◌, ◌-ℤ◌, ◌*ℤ◌, ◌≤ℤ◌, List, [], ◌∷◌, ◌++◌, take, length, get_or, refl, sym, ap, ap₂, ◌∙◌, arith, lit≤, w64, to_z, of_z}
+use Rattle.std.proofs.Common.{◌≡◌, ℕ, zero, suc, ◌+◌, ◌-◌, ◌*◌, ◌^◌, ◌<◌, Bool, true, false, cond, ℤ, pos, ◌+ℤ◌, ◌-ℤ◌, ◌*ℤ◌, ◌≤ℤ◌, List, [], ◌∷◌, ◌++◌, take, length, get_or, refl, sym, ap, ap₂, ◌∙◌, subst, arith, lit≤, w64, to_z, of_z}
 use Rattle.std.proofs.Math.Seq.{take-suc}
 use Rattle.std.proofs.lemmas.Int.{ints}
+use Rattle.std.proofs.lemmas.List.{get_or_default}
 use Rattle.std.proofs.lemmas.Nat.{pow_pos}
 use Rattle.std.specs.Int.Bits.{or_zero_l}
 use Rattle.mix_num.specs.Ranges.{Lies}
@@ -27,6 +28,10 @@ number-range n table p set l =
     let grown = p.grows 0 set (pow_pos (suc n)) l in
     let same = ap (λ (m : ℕ). number_of table m) (or_zero_l set) in
     (omega (arith, ints, none, grown, same), p.bound set l)
+
+-- a table that is read is proper where each is
+pub proper-read : (n : ℕ) (tables : List (List ℤ)) → ((k : ℕ) → k < length tables → IsProper n (get_or tables k [])) → (k : ℕ) (table : List ℤ) → k < length tables → table ≡ get_or tables k table → IsProper n table
+proper-read n tables are k table l read = subst (IsProper n) (sym (read ∙ get_or_default tables k table [] l)) (are k l)
 
 -- one table more
 pub sum_at-more : (tables : List (List ℤ)) (k : ℕ) (table : List ℤ) (i : ℕ) → k < length tables → table ≡ get_or tables k table → sum_at (take (k + 1) tables) i ≡ sum_at (take k tables) i +ℤ get_or table i (pos 0)

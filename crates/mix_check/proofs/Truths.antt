@@ -1,8 +1,8 @@
 -- A reason that holds tells that the outcome isn't true; and an answer that passes all tests is true.
-use Rattle.std.proofs.Common.{◌≡◌, ℕ, ◌≤◌, ◌<◌, ℤ, pos, ◌<ℤ◌, List, [], length, get_or, sym, ap, ◌∙◌, subst, arith}
+use Rattle.std.proofs.Common.{◌≡◌, ℕ, ◌≤◌, ◌<◌, ℤ, pos, ◌<ℤ◌, List, [], length, get_or, sym, ap, ◌∙◌, subst, arith, w64, to_z, of_z}
 use Rattle.std.proofs.lemmas.Int.{ints}
 use Rattle.std.proofs.lemmas.List.Elements.{All-from_get_or, All-get_or}
-use Rattle.mix_num.specs.Ranges.{AreWithin}
+use Rattle.mix_num.specs.Ranges.{AreWithin, Lies}
 use Rattle.mix_num.specs.Vectors.{Vector, with_null}
 use Rattle.mix_num.specs.Sums.{dot_of}
 use Rattle.mix_num.specs.Orders.{in_order, place_at}
@@ -17,7 +17,7 @@ use Rattle.mix_clearing.specs.Lowerings.{RisesWhereFallen}
 use Rattle.mix_clearing.proofs.CheckedOutcomes.{checked_outcome}
 use Rattle.mix_clearing.proofs.FallingPrices.{least_clearing-by_lowering}
 use Rattle.mix_clearing.proofs.LyapunovLaws.{keep_local, lyapunov_keeps_local}
-use Rattle.mix_bids.specs.Bids.{AreBids, Book}
+use Rattle.mix_bids.specs.Bids.{AreBids, Book, facet_weight}
 use Rattle.mix_bids.proofs.Lengths.{over_of}
 use Rattle.mix_validity.proofs.ConvexLists.{convex_exactly}
 use Rattle.mix_text.specs.Auctions.{AuctionText, IsAuction}
@@ -40,6 +40,16 @@ pub refusal_untrue : (a : AuctionText) (r : Refusal) (reason : Reason) → Holds
 refusal_untrue a r (Facet weight) holds true = holds.1 (holds.0 ∙ sym true.facet.weight)
 refusal_untrue a r (Earlier k) holds true = holds.1 (true.first k holds.0)
 refusal_untrue a r other holds true = holds
+
+-- the weight that is worked out is that of the refusal
+pub weight-same : (a : AuctionText) (r : Refusal) → FitsAuction a r → (book : Book) → book ≡ list_at a.bidders r.bidder → (weight : ℤ) → weight ≡ facet_weight book.goods r.first r.second book.bids (with_null r.prices.items)
+    → Lies 4000000 weight → of_z w64 weight ≡ of_z w64 r.weight → weight_of a r ≡ r.weight
+weight-same a r fits book listed weight value lies e =
+    let is = value ∙ ap (λ (b : Book). facet_weight b.goods r.first r.second b.bids (with_null r.prices.items)) listed in
+    let same = ap (to_z w64) e in
+    let low = fits.least in
+    let high = fits.negative in
+    omega (arith, ints, is, lies, same, low, high)
 
 -- a refusal whose weight is the facet weight there, of the first bidder that isn't convex
 pub true_refusal : (a : AuctionText) (r : Refusal) → IsAuction a → FitsAuction a r → weight_of a r ≡ r.weight → AreConvexBefore a.bidders r.bidder → IsTrueRefusal a.bidders r

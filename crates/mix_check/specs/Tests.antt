@@ -97,6 +97,9 @@ pub record IsTurn (a : AuctionText) (answer : Answer) (turn : ℕ) (table floor 
   pub own : table ≡ get_or (tables_at (utilities_of a.bidders) a.supply a.reserve answer.prices.items (order_of a)) turn []
   pub needed : (set : ℕ) → set < 2 ^ suc (length a.goods) → number_of floor set
       ≡ floor_at (length a.goods) (tables_at (utilities_of a.bidders) a.supply a.reserve answer.prices.items (order_of a)) a.supply (in_order (order_of a) (bundles_of answer)) turn set
+  pub size : length table ≡ 2 ^ suc (length a.goods)
+  pub room : length floor ≡ 512
+  pub range : LieWithin (length a.goods) 4000000000000 floor
 
 -- the pair of the bidder at a turn and of a good is tight
 abbrev pub HasTightPair : AuctionText → Answer → ℕ → ℕ → Type 0

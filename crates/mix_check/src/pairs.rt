@@ -1,21 +1,22 @@
 // The tests of the pairs of sets, for each bidder and each good in turn.
-ghost use Rattle.std.specs.Prelude.{◌≡◌, ◌<◌, ◌≤◌, ◌^◌, ◌+◌, ◌∷◌, [], ◌-ℤ◌, ◌+ℤ◌, ℕ, suc, All, length, IfErr, IfOk};
+ghost use Rattle.std.specs.Prelude.{◌≡◌, ◌<◌, ◌≤◌, ◌^◌, ◌+◌, ◌∷◌, [], ◌-ℤ◌, ◌+ℤ◌, ℕ, suc, pos, All, length, get_or, IfErr, IfOk};
 ghost use Rattle.mix_num.specs.Ranges.{Lies};
 ghost use Rattle.mix_num.specs.Sellers.{AreAmounts, IsAmount};
 ghost use Rattle.mix_num.specs.Sums.{total};
 ghost use Rattle.mix_num.specs.Tables.{IsProper, number_of, share_in};
 ghost use Rattle.mix_text.specs.AuctionTexts.{auction_text};
-ghost use Rattle.mix_answer.specs.Shapes.{HasAnswerShape};
-ghost use Rattle.mix_answer.specs.Truths.{HaveTights};
+ghost use Rattle.mix_answer.specs.Shapes.{AreSets, HasAnswerShape};
+ghost use Rattle.mix_answer.specs.Truths.{HaveTights, pair_of};
 ghost use Rattle.mix_answer.specs.declared.outcome.Outcome.TheVariants.{Cleared};
 ghost use Rattle.mix_check.specs.Orders.{IsFirstReason, NoneBefore};
+ghost use Rattle.mix_check.specs.Reasons.{bundle_of, number_at};
 ghost use Rattle.mix_check.specs.Tests.{AreTablesAt, HasTightPair, HaveSums, IsTurn, LieWithin, rows_of, spare_at};
 
 use crate::reason::Reason;
 use crate::tables::Tables;
 use mix_answer::Answer;
 use mix_demand::Rho;
-use mix_num::{Bundle, Set, pair_number, sum_over};
+use mix_num::{Bundle, Set, Tight, pair_number, sum_over};
 use mix_text::Auction;
 
 /// For each bidder and each good the two sets are a pair, and its number is what the bidder has of the good.
@@ -48,14 +49,12 @@ fn tight_of_bidder(
     requires shape { HasAnswerShape (auction_text auction.now) answer.now }
     requires bidder { bidder < length auction.now.bidders }
     requires turn { IsTurn (auction_text auction.now) answer.now bidder table.now floor.now }
-    requires sizes { (length table.now ≡ 2 ^ suc (length auction.now.goods)) × (length floor.now ≡ 512) }
-    requires range { LieWithin (length auction.now.goods) 4000000000000 floor.now }
     requires before { NoneBefore (auction_text auction.now) (Cleared answer.now) (9 ∷ bidder ∷ []) }
     ensures passed { IfOk result (λ done. (j : ℕ) → j < length auction.now.goods → HasTightPair (auction_text auction.now) answer.now bidder j) }
     ensures next { IfOk result (λ done. NoneBefore (auction_text auction.now) (Cleared answer.now) (9 ∷ suc bidder ∷ [])) }
     ensures reason { IfErr result (IsFirstReason (auction_text auction.now) (Cleared answer.now)) }
 {
-    for good in 0..answer.prices.len() {
+    for good in 0..auction.goods.len() {
         tight_of_good(auction, answer, table, bidder, good, floor)?;
     }
     Ok(())
@@ -74,28 +73,16 @@ fn tight_of_good(
     requires bidder { bidder < length auction.now.bidders }
     requires good { good < length auction.now.goods }
     requires turn { IsTurn (auction_text auction.now) answer.now bidder table.now floor.now }
-    requires sizes { (length table.now ≡ 2 ^ suc (length auction.now.goods)) × (length floor.now ≡ 512) }
-    requires range { LieWithin (length auction.now.goods) 4000000000000 floor.now }
     requires before { NoneBefore (auction_text auction.now) (Cleared answer.now) (9 ∷ bidder ∷ good ∷ []) }
     ensures passed { IfOk result (λ done. HasTightPair (auction_text auction.now) answer.now bidder good) }
     ensures next { IfOk result (λ done. NoneBefore (auction_text auction.now) (Cleared answer.now) (9 ∷ bidder ∷ suc good ∷ [])) }
     ensures reason { IfErr result (IsFirstReason (auction_text auction.now) (Cleared answer.now)) }
 {
-    let goods = answer.prices.len();
-    let pair = answer.tights.get(bidder * goods + good);
-    if !pair.is_pair(good, goods) {
+    if !pair_at(auction, answer, bidder, good).is_pair(good, auction.goods.len()) {
         return Err(Reason::Pair { bidder, good });
     }
-    let bundle = &answer.shares.get(bidder).bundle;
-    let number = table.at(pair.upper);
-    let bound = pair_number(
-        number,
-        floor[pair.lower.bits() as usize],
-        bundle,
-        good,
-        pair,
-    );
-    if bound != bundle[good] {
+    let bound = bound_at(auction, answer, bidder, good, table, floor);
+    if bound != amount_at(auction, answer, bidder, good) {
         return Err(Reason::Tight {
             bidder,
             good,
@@ -103,6 +90,56 @@ fn tight_of_good(
         });
     }
     Ok(())
+}
+
+/// The two sets of a bidder and a good.
+fn pair_at(auction: &Auction, answer: &Answer, bidder: usize, good: usize) -> Tight
+    requires shape { HasAnswerShape (auction_text auction.now) answer.now }
+    requires bidder { bidder < length auction.now.bidders }
+    requires good { good < length auction.now.goods }
+    ensures pair { result ≡ pair_of (length auction.now.goods) answer.now bidder good }
+    ensures sets { AreSets (length auction.now.goods) result }
+{
+    answer.tights.get(bidder * auction.goods.len() + good)
+}
+
+/// What a bidder has of a good.
+fn amount_at(auction: &Auction, answer: &Answer, bidder: usize, good: usize) -> i64
+    requires shape { HasAnswerShape (auction_text auction.now) answer.now }
+    requires bidder { bidder < length auction.now.bidders }
+    requires good { good < length auction.now.goods }
+    ensures value { result ≡ get_or (bundle_of answer.now bidder) good (pos 0) }
+    ensures range { IsAmount result }
+{
+    answer.shares.get(bidder).bundle[good]
+}
+
+/// The number of the pair of a bidder and a good, from what must be given to the bidder at each set.
+fn bound_at(
+    auction: &Auction,
+    answer: &Answer,
+    bidder: usize,
+    good: usize,
+    table: &Rho,
+    floor: &[i64],
+) -> i64
+    requires shape { HasAnswerShape (auction_text auction.now) answer.now }
+    requires bidder { bidder < length auction.now.bidders }
+    requires good { good < length auction.now.goods }
+    requires turn { IsTurn (auction_text auction.now) answer.now bidder table.now floor.now }
+    ensures value { result ≡ number_at (auction_text auction.now) answer.now bidder good }
+    ensures range { Lies 9000000000000 result }
+{
+    let pair = pair_at(auction, answer, bidder, good);
+    let bundle = &answer.shares.get(bidder).bundle;
+    let number = table.at(pair.upper);
+    pair_number(
+        number,
+        floor[pair.lower.bits() as usize],
+        bundle,
+        good,
+        pair,
+    )
 }
 
 /// Writes, for each set, what the supply has there less all that the members can take.

@@ -1,16 +1,13 @@
-use Rattle.std.proofs.Common.{◌<◌, List, [], length, ℤ, sym, ◌∙◌, subst, arith}
+use Rattle.std.proofs.Common.{◌<◌, List, length, ℤ, ◌∙◌, arith}
 use Rattle.std.proofs.lemmas.Int.{ints}
-use Rattle.std.proofs.lemmas.List.{get_or_default}
-use Rattle.mix_num.specs.Tables.{IsProper}
-use Rattle.mix_check.proofs.TableSums.{number-range, sum_at-more}
+use Rattle.mix_check.proofs.TableSums.{number-range, proper-read, sum_at-more}
 use Rattle.mix_check.proofs.tables.sum_of.Goals as goal
 
 pub sum_into-requires-clause-range : goal.sum_into-requires-clause-range
 sum_into-requires-clause-range c = λ set h.
     let table : List ℤ = c.table-item.result in
     let lt : c.loop-table.table-index < length c.args.tables.now = c.loop-table-test.true in
-    let proper : IsProper c.args.goods table =
-    subst (IsProper c.args.goods) (sym (c.table-item.is ∙ get_or_default c.args.tables.now c.loop-table.table-index table [] lt)) (c.requires.proper c.loop-table.table-index lt) in
+    let proper = proper-read c.args.goods c.args.tables.now c.requires.proper c.loop-table.table-index table lt c.table-item.is in
     let size = c.loop-table.invariant.size in
     let own = number-range c.args.goods table proper set (omega (arith, h, size)) in
     let so_far = c.loop-table.invariant.range set (omega (arith, h, size)) in
@@ -21,8 +18,7 @@ pub loop-table-preserved : goal.loop-table-preserved
 loop-table-preserved c =
     let table : List ℤ = c.table-item.result in
     let lt : c.loop-table.table-index < length c.args.tables.now = c.loop-table-test.true in
-    let proper : IsProper c.args.goods table =
-    subst (IsProper c.args.goods) (sym (c.table-item.is ∙ get_or_default c.args.tables.now c.loop-table.table-index table [] lt)) (c.requires.proper c.loop-table.table-index lt) in
+    let proper = proper-read c.args.goods c.args.tables.now c.requires.proper c.loop-table.table-index table lt c.table-item.is in
     let size = c.loop-table.invariant.size in
     record {
       size = c.sum_into.ensures.goods ∙ size;
