@@ -8,7 +8,7 @@ ghost use Rattle.mix_check.specs.Orders.{IsFirstReason, NoneBefore};
 ghost use Rattle.mix_check.specs.Tests.{AreTablesAt, Rises};
 
 use crate::reason::Reason;
-use crate::tables::Tables;
+use crate::tables::{Tables, sets_of};
 use mix_answer::Answer;
 use mix_num::{Prices, Set, sum_over};
 use mix_text::Auction;
@@ -45,13 +45,4 @@ fn can_fall(reserve: &Prices, prices: &Prices, set: Set) -> bool
         }
     }
     true
-}
-
-/// How many sets `n` goods have.
-fn sets_of(n: usize) -> u16
-    requires { n ≤ 8 }
-    ensures value { result ≡ 2 ^ n }
-    ensures range { result ≤ 256 }
-{
-    1 << n
 }

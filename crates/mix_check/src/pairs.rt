@@ -13,7 +13,7 @@ ghost use Rattle.mix_check.specs.Reasons.{bundle_of, number_at};
 ghost use Rattle.mix_check.specs.Tests.{AreTablesAt, HasTightPair, HaveSums, IsTurn, LieWithin, rows_of, spare_at};
 
 use crate::reason::Reason;
-use crate::tables::Tables;
+use crate::tables::{Tables, sets_of};
 use mix_answer::Answer;
 use mix_demand::Rho;
 use mix_num::{Bundle, Set, Tight, pair_number, sum_over};
@@ -154,7 +154,7 @@ fn start(spare: &mut [i64], supply: &Bundle, tables: &Tables)
 {
     let whole = Set::whole(supply.len());
     let null = null_of(supply, tables.sum.at(whole) + tables.seller.at(whole));
-    for bits in 0..sets_of(supply.len()) {
+    for bits in 0..2 * sets_of(supply.len()) {
         let set = Set::from_bits(bits);
         spare[bits as usize] = sum_over(supply, null, set)
             - (tables.sum.at(set) + tables.seller.at(set));
@@ -185,7 +185,7 @@ fn take(spare: &mut [i64], table: &Rho, bundle: &Bundle)
     ensures near { (set : ℕ) → set < 2 ^ suc (length bundle.now.items) → Lies 140000000 (number_of spare.old set -ℤ number_of spare.new set) }
 {
     let null = null_of(bundle, table.at(Set::whole(bundle.len())));
-    for bits in 0..sets_of(bundle.len()) {
+    for bits in 0..2 * sets_of(bundle.len()) {
         spare[bits as usize] -= sum_over(bundle, null, Set::from_bits(bits));
     }
 }
@@ -198,13 +198,4 @@ fn null_of(bundle: &Bundle, number: i64) -> i64
     ensures range { (m : ℕ) → Lies m number → Lies (m + 64000000) result }
 {
     number - sum_over(bundle, 0, Set::goods(bundle.len()))
-}
-
-/// How many sets `n` goods and the null choice have.
-fn sets_of(n: usize) -> u16
-    requires { n ≤ 8 }
-    ensures value { result ≡ 2 ^ suc n }
-    ensures range { result ≤ 512 }
-{
-    2 << n
 }

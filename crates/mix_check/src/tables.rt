@@ -89,3 +89,12 @@ fn sum_of(alloc: Global, goods: usize, tables: &[Rho]) -> Result<Rho, Memory>
     }
     Ok(sum)
 }
+
+/// How many sets `n` goods have. With the null choice they have twice as many.
+pub fn sets_of(n: usize) -> u16
+    requires { n ≤ 8 }
+    ensures value { result ≡ 2 ^ n }
+    ensures range { result ≤ 256 }
+{
+    1 << n
+}

@@ -1,4 +1,5 @@
-use Rattle.std.proofs.Common.{◌≢◌, ℕ, suc, ◌^◌, ◌<◌, ◌∷◌, length, ap, ◌∙◌, arith, lit≤, w64, to_z, of_z, below_more, get_or-set_other, get_or-set_same}
+use Rattle.std.proofs.Common.{◌≡◌, ◌≢◌, ℕ, suc, ◌*◌, ◌^◌, ◌<◌, ◌∷◌, length, sym, ap, ◌∙◌, arith, lit≤, w64, to_z, of_z, below_more, get_or-set_other, get_or-set_same}
+use Rattle.std.proofs.Math.Nat.{pow-succ'}
 use Rattle.std.proofs.lemmas.Int.{ints}
 use Rattle.mix_num.specs.Sums.{sum_in}
 use Rattle.mix_num.specs.Tables.{number_of}
@@ -20,7 +21,7 @@ sum_over-requires-clause-null c =
 
 pub loop-bits-preserved : goal.loop-bits-preserved
 loop-bits-preserved c =
-    let sets = c.sets_of-bits-end.ensures.value ∙ ap (λ (k : ℕ). 2 ^ suc k) c.len-2.ensures.value in
+    let sets : 2 * c.sets_of-bits-end.result ≡ 2 ^ suc (length c.args.supply.now.items) = ap (λ (m : ℕ). 2 * m) (c.sets_of-bits-end.ensures.value ∙ ap (λ (k : ℕ). 2 ^ k) c.len-2.ensures.value) ∙ sym (pow-succ' 2 (length c.args.supply.now.items)) in
     let below : c.loop-bits.bits < 2 ^ suc (length c.args.supply.now.items) = omega (arith, sets) in
     let few = c.sets_of-bits-end.ensures.range in
     let size = c.requires.size in
@@ -40,7 +41,7 @@ loop-bits-preserved c =
 
 pub returns-clause-value : goal.returns-clause-value
 returns-clause-value c = λ set h.
-    let sets = c.sets_of-bits-end.ensures.value ∙ ap (λ (k : ℕ). 2 ^ suc k) c.len-2.ensures.value in
+    let sets : 2 * c.sets_of-bits-end.result ≡ 2 ^ suc (length c.args.supply.now.items) = ap (λ (m : ℕ). 2 * m) (c.sets_of-bits-end.ensures.value ∙ ap (λ (k : ℕ). 2 ^ k) c.len-2.ensures.value) ∙ sym (pow-succ' 2 (length c.args.supply.now.items)) in
     let done = c.loop-bits.invariant.done set (omega (arith, h, sets)) in
     let near = c.null_of-null.ensures.range 2056000000
     (all-lies (length c.args.supply.now.items) c.args.tables.now c.requires.tables c.len.result c.whole-whole.result c.at.result c.at-2.result c.len.ensures.value c.whole-whole.ensures c.at.ensures.value c.at-2.ensures.value) in

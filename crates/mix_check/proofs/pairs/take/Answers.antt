@@ -1,4 +1,5 @@
-use Rattle.std.proofs.Common.{◌≢◌, ℕ, suc, ◌^◌, ◌<◌, ◌∷◌, ℤ, pos, ◌-ℤ◌, length, get_or, ap, ◌∙◌, arith, lit≤, w64, to_z, of_z, below_more, get_or-set_other, get_or-set_same}
+use Rattle.std.proofs.Common.{◌≡◌, ◌≢◌, ℕ, suc, ◌*◌, ◌^◌, ◌<◌, ◌∷◌, ℤ, pos, ◌-ℤ◌, length, get_or, sym, ap, ◌∙◌, arith, lit≤, w64, to_z, of_z, below_more, get_or-set_other, get_or-set_same}
+use Rattle.std.proofs.Math.Nat.{pow-succ'}
 use Rattle.std.proofs.lemmas.Int.{ints}
 use Rattle.mix_num.specs.Ranges.{Lies}
 use Rattle.mix_num.specs.Sums.{sum_in}
@@ -8,7 +9,7 @@ use Rattle.mix_check.proofs.pairs.take.Goals as goal
 
 pub overflow_sub-spare : goal.overflow_sub-spare
 overflow_sub-spare c =
-    let sets = c.sets_of-bits-end.ensures.value ∙ ap (λ (k : ℕ). 2 ^ suc k) c.len-2.ensures.value in
+    let sets : 2 * c.sets_of-bits-end.result ≡ 2 ^ suc (length c.args.bundle.now.items) = ap (λ (m : ℕ). 2 * m) (c.sets_of-bits-end.ensures.value ∙ ap (λ (k : ℕ). 2 ^ k) c.len-2.ensures.value) ∙ sym (pow-succ' 2 (length c.args.bundle.now.items)) in
     let e = c.loop-bits.invariant.rest c.loop-bits.bits (omega arith) in
     let r = c.requires.range c.loop-bits.bits (omega (arith, sets)) in
     let q = c.sum_over.ensures.range in
@@ -16,7 +17,7 @@ overflow_sub-spare c =
 
 pub loop-bits-preserved : goal.loop-bits-preserved
 loop-bits-preserved c =
-    let sets = c.sets_of-bits-end.ensures.value ∙ ap (λ (k : ℕ). 2 ^ suc k) c.len-2.ensures.value in
+    let sets : 2 * c.sets_of-bits-end.result ≡ 2 ^ suc (length c.args.bundle.now.items) = ap (λ (m : ℕ). 2 * m) (c.sets_of-bits-end.ensures.value ∙ ap (λ (k : ℕ). 2 ^ k) c.len-2.ensures.value) ∙ sym (pow-succ' 2 (length c.args.bundle.now.items)) in
     let few = c.sets_of-bits-end.ensures.range in
     let size = c.requires.size in
     let e = c.loop-bits.invariant.rest c.loop-bits.bits (omega arith) in
@@ -43,7 +44,7 @@ loop-bits-preserved c =
 
 pub returns-clause-value : goal.returns-clause-value
 returns-clause-value c = λ set h.
-    let sets = c.sets_of-bits-end.ensures.value ∙ ap (λ (k : ℕ). 2 ^ suc k) c.len-2.ensures.value in
+    let sets : 2 * c.sets_of-bits-end.result ≡ 2 ^ suc (length c.args.bundle.now.items) = ap (λ (m : ℕ). 2 * m) (c.sets_of-bits-end.ensures.value ∙ ap (λ (k : ℕ). 2 ^ k) c.len-2.ensures.value) ∙ sym (pow-succ' 2 (length c.args.bundle.now.items)) in
     let done = c.loop-bits.invariant.done set (omega (arith, h, sets)) in
     let own = null-lies (length c.args.bundle.now.items) c.args.table.now c.requires.proper c.len.result c.whole.result c.at.result c.len.ensures.value c.whole.ensures c.at.ensures.value in
     let null = c.null_of-null.ensures.range 8000000 own in
