@@ -4,7 +4,7 @@ use mix_trial::{make, print_auction};
 use std::test::Fail;
 
 // The outcome of the auction.
-const OUTCOME: &[u8] =
+pub const OUTCOME: &[u8] =
     b"outcome,1\ncleared\nprice,4,0\nshare,X,0,1,0\nshare,Y,1,0,4\nreturn,0,0\ntight,X,A,3,1\ntight,X,B,4,0\ntight,Y,A,2,0\ntight,Y,B,4,0\nend\n";
 
 // Two grades of a good and three bidders, up to the last bid.
@@ -225,8 +225,21 @@ fn forged_outcomes(rt: HostRuntime) -> Result<(), Fail> {
 fn outcomes_that_are_no_texts_and_refusals(rt: HostRuntime) -> Result<(), Fail> {
     let alloc = rt.alloc();
     let torn = b"bid,X,1,6,-\nbid,X,1,-,6\nbid,X,-1,6,6\n";
-    let cases: [(&[u8], &[u8], &[u8], u8, &[u8]); 8] = [
-        (AUCTION, b"outcome,2\n", b"", 3, b"fault,11,range\n"),
+    let cases: [(&[u8], &[u8], &[u8], u8, &[u8]); 9] = [
+        (
+            AUCTION,
+            b"outcome,2\ncleared\nprice,4,0\nshare,X,0,1,0\nshare,Y,1,0,4\nreturn,0,0\n",
+            b"tight,X,A,3,1\ntight,X,B,4,0\ntight,Y,A,2,0\ntight,Y,B,4,0\nend\n",
+            3,
+            b"fault,11,range\n",
+        ),
+        (
+            AUCTION,
+            b"outcome,1\ncleared\nprice,4,0\nshare,X,0,1,0\nshare,Y,1,0,4\nreturn,0,0\n",
+            b"tight,X,A,3,1\ntight,X,B,4,0\ntight,Y,A,2,0\ntight,Y,B,4,0\n",
+            3,
+            b"fault,21,end\n",
+        ),
         (AUCTION, b"outcome,1\ncleared\n", b"", 3, b"fault,13,end\n"),
         (AUCTION, OUTCOME, b"end\n", 3, b"fault,22,after\n"),
         (

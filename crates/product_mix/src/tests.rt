@@ -35,6 +35,15 @@ pub fn text_of(
     Ok(text)
 }
 
+// The words as a command line has them.
+pub fn words_of(alloc: Global, words: &[&str]) -> Result<Vec<String>, Fail> {
+    let mut named = Vec::new(alloc);
+    for word in words {
+        named.push(String::from_str(alloc, word)?)?;
+    }
+    Ok(named)
+}
+
 // A call with these words, from a source of pieces of 8 bytes whose listed calls fail to a sink with room for `room` bytes.
 pub fn call(
     alloc: Global,
@@ -43,10 +52,7 @@ pub fn call(
     fails: Vec<u64>,
     room: usize,
 ) -> Result<(u8, MemorySink), Fail> {
-    let mut named = Vec::new(alloc);
-    for word in words {
-        named.push(String::from_str(alloc, word)?)?;
-    }
+    let named = words_of(alloc, words)?;
     let mut input = MemorySource::new(text, 8, fails);
     let mut output = MemorySink::new(alloc, room, 3, Vec::new(alloc))?;
     let status = run(alloc, &named, &mut input, &mut output);
