@@ -6,7 +6,7 @@ use Rattle.mix_bids.specs.Bids.{Book}
 use Rattle.mix_facets.specs.Planes.{Plane, bids_of}
 use Rattle.mix_facets.specs.Points.{IsCoordinate, IsNullCoordinate}
 use Rattle.mix_facets.specs.Candidates.{counting_from, lowest}
-use Rattle.mix_facets.specs.Grids.{IsDistinct, AreCandidates}
+use Rattle.mix_facets.specs.Grids.{IsRising, AreCandidates}
 use Rattle.mix_facets.proofs.Members.{contains_first}
 use Rattle.mix_facets.proofs.Steps.{AreImages, IsAdded, All-added}
 
@@ -25,8 +25,8 @@ last_in false w u e = let q : w ≡ u = cc in contains_first [] w u q
 not_null : (c : ℕ) (w u : ℤ) → c ≡ 0 → cond (eqb c 0) None (Some w) ≡ Some u → ⊥
 not_null c w u z e = let t : eqb c 0 ≡ true = grind (arith, nat_tests) in let q = sym (ap (λ b. cond b None (Some w)) t) ∙ e in cc
 
-pub candidates_are : (book : Book) (level : Plane) (c : ℕ) (o : Option ℤ) (old new : List ℤ) → AreImages (counting_from level.first c) (bids_of book level) old → o ≡ cond (eqb c 0) None (Some (lowest level.first c (bids_of book level))) → IsAdded o old new → IsDistinct new → length old ≤ 400 → length new ≤ length old + 1 → All IsCoordinate old → ((u : ℤ) → o ≡ Some u → IsCoordinate u) → (c ≡ 0 → All IsNullCoordinate old) → AreCandidates book level c new
-candidates_are book level c o old new images e added distinct few more near from null = record {
+pub candidates_are : (book : Book) (level : Plane) (c : ℕ) (o : Option ℤ) (old new : List ℤ) → AreImages (counting_from level.first c) (bids_of book level) old → o ≡ cond (eqb c 0) None (Some (lowest level.first c (bids_of book level))) → IsAdded o old new → IsRising new → length old ≤ 400 → length new ≤ length old + 1 → All IsCoordinate old → ((u : ℤ) → o ≡ Some u → IsCoordinate u) → (c ≡ 0 → All IsNullCoordinate old) → AreCandidates book level c new
+candidates_are book level c o old new images e added rising few more near from null = record {
   members = λ u. (
     λ h. ⊎_elim
         (λ m. Contains-append_left front back u ((images u).0 m))
@@ -37,7 +37,7 @@ candidates_are book level c o old new images e added distinct few more near from
         (λ m. inr (e ∙ last_of (eqb c 0) w u m))
         (Contains-append_cases front back u h)),
   );
-  distinct = distinct;
+  rising = rising;
   few = omega arith;
   near = All-added IsCoordinate o old new added from near;
   null = λ z. All-added IsNullCoordinate o old new added (λ u q. absurd (not_null c w u z (sym e ∙ q))) (null z);

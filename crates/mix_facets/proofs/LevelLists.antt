@@ -1,23 +1,28 @@
 -- A list with a level at each difference, and no other level.
 use Rattle.std.proofs.Common.{◌≡◌, ℕ, ◌≤◌, ◌<◌, ◌↔◌, List, ℤ, pos, ◌-ℤ◌, ◌<ℤ◌, refl, arith, sym, ap, ◌∙◌, subst, length, get_or, map, Contains, Any}
+use Rattle.std.proofs.lemmas.Int.{ints}
 use Rattle.std.proofs.lemmas.List.{get_or-map, get_or_default, length-map}
 use Rattle.std.proofs.lemmas.List.Elements.{Contains-get_or}
 use Rattle.mix_num.specs.Vectors.{Vector}
 use Rattle.mix_bids.specs.Bids.{AreBids, Book, facet_weight}
 use Rattle.mix_bids.proofs.Lengths.{over_of}
 use Rattle.mix_facets.specs.Planes.{Plane, differences, level_at, IsLevelOf, AreLevelsOf}
-use Rattle.mix_facets.specs.Grids.{IsDistinct}
+use Rattle.mix_facets.specs.Grids.{IsRising}
 use Rattle.mix_facets.proofs.Leasts.{negative_difference}
+use Rattle.mix_facets.proofs.Risings.{rising_at}
 
 -- the levels at distinct differences, when these are the differences of the bids of negative weight
-pub levels_at : (book : Book) (i j : ℕ) (ds : List ℤ) (levels : List Plane) → i < j → j ≤ book.goods → IsDistinct ds → ((d : ℤ) → Contains ds d ↔ Contains (differences i j book.bids) d) → levels ≡ map (level_at book i j) ds → AreLevelsOf book i j levels
+pub levels_at : (book : Book) (i j : ℕ) (ds : List ℤ) (levels : List Plane) → i < j → j ≤ book.goods → IsRising ds → ((d : ℤ) → Contains ds d ↔ Contains (differences i j book.bids) d) → levels ≡ map (level_at book i j) ds → AreLevelsOf book i j levels
 levels_at book i j ds levels p q once same e = record {
   each = λ k d l. subst (λ (z : Plane). IsLevelOf book z × (z.first ≡ i) × (z.second ≡ j)) (sym (at k d l))
       (record { goods = refl; order = p; within = q; negative = (same (get_or ds k (pos 0))).0 (Contains-get_or ds k (pos 0) (below k l)); bids = refl }, refl, refl);
   all = λ d h. let m = (same d).1 h in
       let l : m.0 < length levels = let b = m.1 in omega (arith, size) in
       (m.0, level_at book i j d, l, at m.0 (level_at book i j d) l ∙ ap (level_at book i j) (get_or_default ds m.0 (pos 0) d m.1 ∙ m.2), refl);
-  once = λ k l d b m h. once k l (pos 0) b (below l m) (sym (ap (λ z. z.difference) (at k d (omega arith))) ∙ h ∙ ap (λ z. z.difference) (at l d m));
+  once = λ k l d b m h.
+      let e : get_or ds k (pos 0) ≡ get_or ds l (pos 0) = sym (ap (λ z. z.difference) (at k d (omega arith))) ∙ h ∙ ap (λ z. z.difference) (at l d m) in
+      let r = rising_at ds k l once b (below l m) in
+      absurd (omega (arith, ints));
 }
   where
     size : length levels ≡ length ds

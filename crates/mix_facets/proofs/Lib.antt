@@ -8,6 +8,14 @@ pub mod PointPrices
 pub mod AllBelow
 pub mod Numberings
 pub mod Leasts
+pub mod Risings
+pub mod CellTurns
+pub mod GridPoints
+pub mod HeldWeights
+pub mod FirstPlaces
+pub mod FirstCells
+pub mod Blocks
+pub mod CellSums
 pub mod Steps
 pub mod Weighing
 pub mod Places

@@ -1,8 +1,10 @@
 -- The points of a grid are numbered from 0 to its size, each once.
 use Rattle.std.proofs.Common.{◌≡◌, ℕ, zero, suc, ◌+◌, ◌*◌, ◌/◌, ◌%◌, ◌<◌, List, [], ◌∷◌, ℤ, pos, refl, arith, sym, ap, ap₂, ◌∙◌, length, get_or, Contains}
+use Rattle.std.proofs.lemmas.Int.{ints}
 use Rattle.std.proofs.lemmas.List.{get_or_default}
 use Rattle.std.proofs.lemmas.Nat.{div-add-mod', div_below, mod_below, mul-add-lt, div-mul-add, mod-mul-add}
-use Rattle.mix_facets.specs.Grids.{size_of, point_at, IsDistinct, IsOn}
+use Rattle.mix_facets.specs.Grids.{size_of, point_at, IsRising, IsOn}
+use Rattle.mix_facets.proofs.Risings.{rising_at}
 
 pub length-point_at : (grid : List (List ℤ)) (k : ℕ) → length (point_at grid k) ≡ length grid
 length-point_at [] k = refl
@@ -57,14 +59,14 @@ numbered_on (us ∷ grid) (u ∷ point) h =
     }
 
 -- two places of the same number are the same
-pub place_once : (us : List ℤ) (k l : ℕ) → IsDistinct us → k < length us → l < length us → get_or us k (pos 0) ≡ get_or us l (pos 0) → k ≡ l
-place_once us k l d p q e = by_order (λ h. absurd (d k l (pos 0) h q e)) (λ h. absurd (d l k (pos 0) h p (sym e)))
+pub place_once : (us : List ℤ) (k l : ℕ) → IsRising us → k < length us → l < length us → get_or us k (pos 0) ≡ get_or us l (pos 0) → k ≡ l
+place_once us k l d p q e = by_order (λ h. let r = rising_at us k l d h q in absurd (omega (arith, ints))) (λ h. let r = rising_at us l k d h p in absurd (omega (arith, ints)))
   where
     by_order : (k < l → k ≡ l) → (l < k → k ≡ l) → k ≡ l
     by_order f g = grind arith
 
 -- two numbers of the same point are the same
-pub number_once : (grid : List (List ℤ)) (k l : ℕ) → ((m : ℕ) → m < length grid → IsDistinct (get_or grid m [])) → k < size_of grid → l < size_of grid → point_at grid k ≡ point_at grid l → k ≡ l
+pub number_once : (grid : List (List ℤ)) (k l : ℕ) → ((m : ℕ) → m < length grid → IsRising (get_or grid m [])) → k < size_of grid → l < size_of grid → point_at grid k ≡ point_at grid l → k ≡ l
 number_once [] k l d p q e = omega arith
 number_once (us ∷ grid) k l d p q e =
     let a = digits_of k (length us) (size_of grid) p in

@@ -1,5 +1,5 @@
 -- Grids: the points with one candidate for each coordinate.
-use Rattle.std.specs.Prelude.{◌≡◌, ◌≢◌, ◌↔◌, ℕ, suc, ◌*◌, ◌/◌, ◌%◌, ◌<◌, ◌≤◌, List, [], ◌∷◌, ℤ, pos, get_or, length, All, AllPairs, Contains}
+use Rattle.std.specs.Prelude.{◌≡◌, ◌↔◌, ℕ, suc, ◌*◌, ◌/◌, ◌%◌, ◌<◌, ◌≤◌, List, [], ◌∷◌, ℤ, pos, ◌<ℤ◌, get_or, length, All, AllPairs, Contains}
 use Rattle.mix_bids.specs.Bids.{Book}
 use Rattle.mix_facets.specs.Planes.{Plane, bids_of}
 use Rattle.mix_facets.specs.Points.{other, IsCoordinate, IsNullCoordinate}
@@ -15,19 +15,19 @@ abbrev pub point_at : List (List ℤ) → ℕ → List ℤ
 point_at [] k = []
 point_at (us ∷ grid) k = get_or us (k % length us) (pos 0) ∷ point_at grid (k / length us)
 
--- no number stands twice
-abbrev pub IsDistinct : List ℤ → Type 0
-IsDistinct us = AllPairs (λ u v. u ≢ v) us
+-- each number is above those before it
+abbrev pub IsRising : List ℤ → Type 0
+IsRising us = AllPairs (λ u v. u <ℤ v) us
 
 -- a point of a grid: each coordinate is one of its candidates
 pub record IsOn (grid : List (List ℤ)) (point : List ℤ) : Type 0 where
   pub size : length point ≡ length grid
   pub each : (k : ℕ) → k < length grid → Contains (get_or grid k []) (get_or point k (pos 0))
 
--- the candidates of the choice c at a level of a list, each once
+-- the candidates of the choice c at a level of a list, each once, in rising order
 pub record AreCandidates (book : Book) (level : Plane) (c : ℕ) (us : List ℤ) : Type 0 where
   pub members : (u : ℤ) → Contains us u ↔ Contains (candidates level.first c (bids_of book level)) u
-  pub distinct : IsDistinct us
+  pub rising : IsRising us
   pub few : length us ≤ 401
   pub near : All IsCoordinate us
   pub null : c ≡ 0 → All IsNullCoordinate us

@@ -4,3 +4,4 @@ pub mod Points
 pub mod Counted
 pub mod Candidates
 pub mod Grids
+pub mod Cells

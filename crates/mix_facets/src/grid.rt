@@ -18,18 +18,18 @@ use std::marker::Model;
 /// The points with one candidate for each coordinate. Only the candidates are stored.
 #[derive(Drop)]
 pub struct Grid {
-    candidates: Vec<Numbers>,
+    pub(crate) candidates: Vec<Numbers>,
 }
 
 impl Model for Grid {
     ghost use Rattle.std.specs.Prelude.{◌≤◌, ◌<◌, ℕ, ℤ, List, [], get_or, length};
-    ghost use Rattle.mix_facets.specs.Grids.{IsDistinct};
+    ghost use Rattle.mix_facets.specs.Grids.{IsRising};
 
     ghost Value = { List (List ℤ) };
 
     ghost view = { λ grid. grid.candidates.items };
 
-    ghost invariant = { λ grid. (length grid.candidates.items ≤ 7) × ((k : ℕ) → k < length grid.candidates.items → (length (get_or grid.candidates.items k []) ≤ 401) × IsDistinct (get_or grid.candidates.items k [])) };
+    ghost invariant = { λ grid. (length grid.candidates.items ≤ 7) × ((k : ℕ) → k < length grid.candidates.items → (length (get_or grid.candidates.items k []) ≤ 401) × IsRising (get_or grid.candidates.items k [])) };
 }
 
 impl Grid {

@@ -13,7 +13,7 @@ use mix_num::Memory;
 use std::alloc::Global;
 use std::marker::Model;
 
-/// Levels in the order in which the bids of negative weight first have their differences.
+/// Levels, by their differences in rising order.
 #[derive(Drop)]
 pub struct Levels {
     levels: Vec<Level>,

@@ -2,8 +2,10 @@
 #![tactic(auto)]
 
 mod candidates;
+mod cells;
 mod grid;
 mod lead;
+mod least;
 mod level;
 mod levels;
 mod numbers;
@@ -13,6 +15,7 @@ mod tests;
 mod weight;
 
 pub use grid::{Grid, grid_of};
+pub use least::{LeastPoint, lowest};
 pub use level::Level;
 pub use levels::{Levels, levels_of};
 pub use point::{Point, price_of};

@@ -1,8 +1,8 @@
-// A list over three goods whose one facet of negative weight shows at a point that is made of two bids.
+// A list over three goods whose one facet of negative weight shows at a point that is made of two bids; least points of its levels.
 ghost use Rattle.std.specs.Prelude.{◌≡◌, ◌<◌, ◌∷◌, [], suc, length, IfOk, OnOk};
 ghost use Rattle.mix_bids.specs.Bids.{IsBid};
 
-use crate::{grid_of, levels_of, price_of, weight_at};
+use crate::{LeastPoint, grid_of, levels_of, lowest, price_of, weight_at};
 use mix_bids::{Bid, BidList, Values};
 use mix_num::Memory;
 use std::alloc::Global;
@@ -45,6 +45,8 @@ fn seven(alloc: Global) -> Result<BidList, Memory>
     Ok(list)
 }
 
+/// The candidates and the facet weights of nothing against the first good at the difference -5: by the number of the point its
+/// coordinates, of the second good and the third, and the weight there.
 #[test]
 fn two_bids_make_the_failing_point(rt: HostRuntime) -> Result<(), Fail> {
     let list = seven(rt.alloc())?;
@@ -55,15 +57,15 @@ fn two_bids_make_the_failing_point(rt: HostRuntime) -> Result<(), Fail> {
     assert_eq!(rt; grid.size(), 9);
 
     let rows = [
-        ([3, 9], 0),
-        ([9, 9], -1),
-        ([2, 9], 0),
-        ([3, 3], 1),
-        ([9, 3], 0),
-        ([2, 3], 0),
+        ([2, 2], 0),
         ([3, 2], 0),
         ([9, 2], 0),
-        ([2, 2], 0),
+        ([2, 3], 0),
+        ([3, 3], 1),
+        ([9, 3], 0),
+        ([2, 9], 0),
+        ([3, 9], 0),
+        ([9, 9], -1),
     ];
     for number in 0..9 {
         let (coordinates, weight) = rows[number];
@@ -72,8 +74,30 @@ fn two_bids_make_the_failing_point(rt: HostRuntime) -> Result<(), Fail> {
         assert_eq!(rt; weight_at(&list, level, &point), weight);
     }
     assert_eq!(rt;
-        price_of(level, &grid.point(1)).as_slice(),
+        price_of(level, &grid.point(8)).as_slice(),
         [5, 9, 9].as_slice()
     );
+    Ok(())
+}
+
+/// By the two choices and the place of the level, the least facet weight, the number of its first point, and the point's
+/// coordinates. In the last two levels three of the four points have the least weight, and two of them.
+#[test]
+fn least_points(rt: HostRuntime) -> Result<(), Fail> {
+    let list = seven(rt.alloc())?;
+    let rows = [
+        ((0, 1, 0), -1, 8, [9, 9]),
+        ((0, 2, 0), 0, 0, [5, 2]),
+        ((0, 2, 1), 0, 0, [5, 2]),
+    ];
+    for ((first, second, place), weight, index, coordinates) in rows {
+        let levels = levels_of(rt.alloc(), &list, first, second)?;
+        let level = levels.level(place);
+        let grid = grid_of(rt.alloc(), &list, level)?;
+        let least = lowest(rt.alloc(), &list, level, &grid)?;
+        assert_eq!(rt; least, LeastPoint { index, weight });
+        assert_eq!(rt; grid.point(index).as_slice(), coordinates.as_slice());
+        assert_eq!(rt; weight_at(&list, level, &grid.point(index)), weight);
+    }
     Ok(())
 }

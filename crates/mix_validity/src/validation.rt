@@ -12,7 +12,7 @@ use crate::convexity::convex_where_none_negative;
 use crate::refused::{NotValid, Refused};
 use crate::valid_list::ValidList;
 use mix_bids::BidList;
-use mix_facets::{Level, Point, grid_of, levels_of, price_of, weight_at};
+use mix_facets::{Level, grid_of, levels_of, lowest, price_of};
 use mix_num::Memory;
 use std::alloc::Global;
 
@@ -99,36 +99,14 @@ fn refusal_at_level(
     ensures { IfOk result (λ found. MatchOption found (IsClearAt list.now first second level.now.difference) (HasFacet list.now)) }
 {
     let grid = grid_of(alloc, list, level)?;
-    for number in 0..grid.size() {
-        if let Some(facet) = refusal_at_point(list, first, second, level, &grid.point(number)) {
-            return Ok(Some(facet));
-        }
+    let least = lowest(alloc, list, level, &grid)?;
+    if least.weight >= 0 {
+        return Ok(None);
     }
-    Ok(None)
-}
-
-/// The facet of two choices at a point of a level of theirs, if its weight is negative.
-fn refusal_at_point(
-    list: &BidList,
-    first: usize,
-    second: usize,
-    level: &Level,
-    point: &Point,
-) -> Option<NotValid>
-    requires level { IsLevelOf list.now level.now }
-    requires first { level.now.first ≡ first }
-    requires second { level.now.second ≡ second }
-    requires point { IsPoint level.now point.now.items }
-    ensures { MatchOption result (pos 0 ≤ℤ facet_weight list.now.goods level.now.first level.now.second list.now.bids (prices_at level.now point.now.items)) (HasFacet list.now) }
-{
-    let weight = weight_at(list, level, point);
-    if weight >= 0 {
-        return None;
-    }
-    Some(NotValid {
+    Ok(Some(NotValid {
         first,
         second,
-        prices: price_of(level, point),
-        weight,
-    })
+        prices: price_of(level, &grid.point(least.index)),
+        weight: least.weight,
+    }))
 }

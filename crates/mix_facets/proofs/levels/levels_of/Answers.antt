@@ -11,7 +11,7 @@ are_levels c =
     let d = c.in_ok-differences.differences in
     let e : take c.loop-place.place c.differences.inside.numbers.items ≡ d =
     ap (take c.loop-place.place) c.differences.view_is ∙ take_all c.loop-place.place d (omega (arith, c.len-place-end.ensures.value)) in
-    levels_at c.args.list.now c.args.first c.args.second d c.loop-place.levels.items c.requires.order c.requires.within c.len-place-end.ensures.distinct c.in_ok-differences.ensures.members (c.loop-place.invariant ∙ ap (map f) e)
+    levels_at c.args.list.now c.args.first c.args.second d c.loop-place.levels.items c.requires.order c.requires.within c.len-place-end.ensures.rising c.in_ok-differences.ensures.members (c.loop-place.invariant ∙ ap (map f) e)
 
 pub returns-clause-levels : goal.returns-clause-levels
 returns-clause-levels c = are_levels c

@@ -1,6 +1,6 @@
 use Rattle.std.proofs.Common.{◌≡◌, ℕ, ◌+◌, ◌*◌, ◌^◌, ◌≤◌, ◌<◌, List, [], ℤ, arith, ap, subst, ◌∙◌, length, get_or}
 use Rattle.std.proofs.lemmas.List.{get_or_default}
-use Rattle.mix_facets.specs.Grids.{size_of, IsDistinct}
+use Rattle.mix_facets.specs.Grids.{size_of, IsRising}
 use Rattle.mix_facets.proofs.Numberings.{numbered_on, number_once}
 use Rattle.mix_facets.proofs.Sizes.{size_step, size_end, power_step, size_most}
 use Rattle.mix_facets.proofs.grid.Grid.size.Goals as goal
@@ -49,5 +49,5 @@ returns-clause-all c = λ point o.
 pub returns-clause-once : goal.returns-clause-once
 returns-clause-once c = λ k l p q e.
     let s = size_is (goal.at.returns-clause-once c).After-loop-numbers in
-    let d = subst (λ (z : List (List ℤ)). (m : ℕ) → m < length z → (length (get_or z m []) ≤ 401) × IsDistinct (get_or z m [])) c.self.view_is c.self.invariant.1 in
+    let d = subst (λ (z : List (List ℤ)). (m : ℕ) → m < length z → (length (get_or z m []) ≤ 401) × IsRising (get_or z m [])) c.self.view_is c.self.invariant.1 in
     number_once c.args.self.now k l (λ m h. (d m h).1) (omega arith) (omega arith) e
