@@ -92,12 +92,13 @@ fn least_points(rt: HostRuntime) -> Result<(), Fail> {
     ];
     for ((first, second, place), weight, index, coordinates) in rows {
         let levels = levels_of(rt.alloc(), &list, first, second)?;
+        assert!(rt; place < levels.len());
         let level = levels.level(place);
         let grid = grid_of(rt.alloc(), &list, level)?;
         let least = lowest(rt.alloc(), &list, level, &grid)?;
         assert_eq!(rt; least, LeastPoint { index, weight });
-        assert_eq!(rt; grid.point(index).as_slice(), coordinates.as_slice());
-        assert_eq!(rt; weight_at(&list, level, &grid.point(index)), weight);
+        assert_eq!(rt; grid.point(least.index).as_slice(), coordinates.as_slice());
+        assert_eq!(rt; weight_at(&list, level, &grid.point(least.index)), weight);
     }
     Ok(())
 }
