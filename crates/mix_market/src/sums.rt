@@ -59,12 +59,7 @@ pub fn falls<D: Convex>(buyers: &[D], prices: &Prices) -> SetTable
 }
 
 /// Adds what a member's function falls by: to the first table, or in parts, to be summed over subsets, to the second.
-fn add_falls<D: Convex>(
-    buyer: &D,
-    prices: &Prices,
-    falls: &mut SetTable,
-    parts: &mut SetTable,
-)
+fn add_falls<D: Convex>(buyer: &D, prices: &Prices, falls: &mut SetTable, parts: &mut SetTable)
     requires some { 1 ≤ D.size buyer.now }
     requires prices { HaveRoom (D.size buyer.now) prices.now.items }
     requires range { (set : ℕ) → set < 2 ^ suc (D.size buyer.now) → Lies 4000000000 (number_of falls.old set +ℤ fall_of (D.function buyer.now) (with_null prices.now.items) (members set)) }

@@ -5,6 +5,8 @@ mod alone;
 mod checking;
 mod command;
 #[cfg(test)]
+mod counted_tests;
+#[cfg(test)]
 mod device_tests;
 #[cfg(test)]
 mod outcome_tests;

@@ -36,7 +36,7 @@ loop-i-preserved c =
     let i = c.loop-i.i in
     let before = c.loop-i.invariant in
     elim c.if-i-offers.branch [
-        then-i-offers w ↦
+      | then-i-offers w ↦
           let here = w.if-i-offers.true in
           let is = w.best-is in
           let r = All-get_or (Lies 4000000) _ i (pos 0) (omega (arith, ap length c.as_slice-prices.ensures.value, ap length c.as_slice-offers.ensures.value)) (All-same (Lies 4000000) _ _ c.as_slice-prices.ensures.value c.requires.prices.1) in
@@ -59,7 +59,7 @@ loop-i-preserved c =
             range = let g = ap (λ (b : Best). b.gain) is in (omega (arith, ints, g, before.range.0), omega (arith, ints, g, before.range.1));
             size = omega (arith, ap (λ (b : Best). b.set) is, before.size);
           }
-      ]
+    ]
 
 pub returns-clause-best : goal.returns-clause-best
 returns-clause-best c = λ k.

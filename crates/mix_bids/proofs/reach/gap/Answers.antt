@@ -24,7 +24,7 @@ loop-i-preserved c =
     let i = c.loop-i.i in
     let before = c.loop-i.invariant in
     elim c.if-i-offers.branch [
-        then-i-offers w ↦
+      | then-i-offers w ↦
           let here = w.if-i-offers.true in
           let is = w.gains-is in
           let r = All-get_or (Lies 4000000) _ i (pos 0) (omega (arith, ap length c.as_slice-prices.ensures.value, ap length c.as_slice-offers.ensures.value)) (All-same (Lies 4000000) _ _ c.as_slice-prices.ensures.value c.requires.prices.1) in
@@ -50,4 +50,4 @@ loop-i-preserved c =
             outside = outer ∙ before.outside ∙ ap (λ z. gain_in (outside s) z (with_null ps)) none;
             outside_range = (omega (arith, ints, outer, before.outside_range.0), omega (arith, ints, outer, before.outside_range.1));
           }
-      ]
+    ]
