@@ -126,7 +126,7 @@ fn forged_outcomes(rt: HostRuntime) -> Result<(), Fail> {
     let alloc = rt.alloc();
     let head = b"outcome,1\ncleared\n";
     let tights = b"tight,X,B,4,0\ntight,Y,A,2,0\ntight,Y,B,4,0\nend\n";
-    let cases: [(&[u8], &[u8], u8, &[u8]); 14] = [
+    let cases: [(&[u8], &[u8], u8, &[u8]); 16] = [
         (
             b"price,4,0\nshare,X,0,1,0\nshare,Y,1,0,4\nreturn,0,0\n",
             b"tight,X,A,3,1\n",
@@ -211,6 +211,18 @@ fn forged_outcomes(rt: HostRuntime) -> Result<(), Fail> {
             3,
             b"fault,17,range\n",
         ),
+        (
+            b"price,4,0\nshare,X,0,1,0\nshare,Y,1,0,10000000000000\nreturn,0,0\n",
+            b"tight,X,A,3,1\n",
+            1,
+            b"no,pay,Y,4\n",
+        ),
+        (
+            b"price,4,0\nshare,X,0,1,0\nshare,Y,1,0,4\nreturn,0,0\n",
+            b"tight,X,C,3,1\n",
+            3,
+            b"fault,17,other\n",
+        ),
     ];
     for (shares, pair, status, output) in cases {
         let auction = text_of(alloc, AUCTION, head, 1, shares)?;
@@ -220,12 +232,12 @@ fn forged_outcomes(rt: HostRuntime) -> Result<(), Fail> {
     Ok(())
 }
 
-// Cut and doubled outcomes, those of another version, and refusals, true and not.
+// Cut and doubled outcomes, those of another version or another auction, and refusals, true and not.
 #[test]
 fn outcomes_that_are_no_texts_and_refusals(rt: HostRuntime) -> Result<(), Fail> {
     let alloc = rt.alloc();
     let torn = b"bid,X,1,6,-\nbid,X,1,-,6\nbid,X,-1,6,6\n";
-    let cases: [(&[u8], &[u8], &[u8], u8, &[u8]); 9] = [
+    let cases: [(&[u8], &[u8], &[u8], u8, &[u8]); 15] = [
         (
             AUCTION,
             b"outcome,2\ncleared\nprice,4,0\nshare,X,0,1,0\nshare,Y,1,0,4\nreturn,0,0\n",
@@ -242,6 +254,42 @@ fn outcomes_that_are_no_texts_and_refusals(rt: HostRuntime) -> Result<(), Fail> 
         ),
         (AUCTION, b"outcome,1\ncleared\n", b"", 3, b"fault,13,end\n"),
         (AUCTION, OUTCOME, b"end\n", 3, b"fault,22,after\n"),
+        (AUCTION, OUTCOME, OUTCOME, 3, b"fault,22,after\n"),
+        (
+            AUCTION,
+            b"outcome,1\ncleared\nprice,7\nshare,P,2,14\nshare,Q,1,7\nshare,S,0,0\nreturn,0\n",
+            b"tight,P,A,2,0\ntight,Q,A,3,1\ntight,S,A,2,0\nend\n",
+            3,
+            b"fault,13,fields\n",
+        ),
+        (
+            AUCTION,
+            b"outcome,1\ncleared\nprice,1000001,0\n",
+            b"end\n",
+            3,
+            b"fault,13,range\n",
+        ),
+        (
+            AUCTION,
+            b"outcome,1\ncleared\nprice,4,0\nshare,Y,1,0,4\nshare,X,0,1,0\n",
+            b"return,0,0\nend\n",
+            3,
+            b"fault,14,other\n",
+        ),
+        (
+            AUCTION,
+            b"outcome,1\nrefused,Z,A,B,5,5,-1\n",
+            b"end\n",
+            3,
+            b"fault,12,other\n",
+        ),
+        (
+            AUCTION,
+            b"outcome,1\nrefused,X,A,B,5,5,-1\n",
+            b"end\n",
+            1,
+            b"no,facet,1\n",
+        ),
         (
             TWO_GOODS,
             torn,
