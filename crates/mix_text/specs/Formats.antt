@@ -1,10 +1,10 @@
 -- The formats of an auction's text, and how much of each quantity they let stand.
-use Rattle.std.specs.Prelude.{◌≡◌, ◌≤◌, ◌⊎◌, ◌==◌, Bool, false, ℕ, nat_lt, if◌then◌else◌, Option, Some, None}
+use Rattle.std.specs.Prelude.{◌≡◌, ◌≤◌, ◌==◌, Bool, false, ℕ, nat_lt, if◌then◌else◌, Option, Some, None}
 use Rattle.mix_text.specs.declared.formats.Limits.{Limits}
 
--- the formats that there are, by their numbers
+-- the formats that there are, by their numbers: 1 and 2
 abbrev pub IsFormat : ℕ → Type 0
-IsFormat format = (format ≡ 1) ⊎ (format ≡ 2)
+IsFormat format = (1 ≤ format) × (format ≤ 2)
 
 -- the limits of `mix,1` and of `mix,2`
 abbrev pub mix_one : Limits
