@@ -10,7 +10,7 @@ use Rattle.std.proofs.lemmas.List.{append-nil, length-append, length-drop, lengt
 use Rattle.std.proofs.lemmas.List.Elements.{All-cons, All-filter, All-head, All-map, All-nil, All-push, All-tail, All-weaker}
 use Rattle.mix_bids.specs.Bids.{AreBids, Book, IsBid}
 use Rattle.mix_bids.specs.Cells.{cells}
-use Rattle.mix_bids.proofs.CellStubs.{no_cells}
+use Rattle.mix_bids.proofs.CellPushes.{cells_none}
 use Rattle.mix_bids.specs.declared.bid.Bid.{Bid}
 use Rattle.mix_text.specs.Rows.{RestText, RowText}
 use Rattle.mix_text.specs.Spelling.{is_name, spelled_name}
@@ -219,7 +219,7 @@ bids_ok limits n next before (row ∷ rest) read e a = elim (cases_Bool (begins 
 
 -- no bids pass no limit
 pub no_bids : (limits : Limits) (n : ℕ) → BidsMeet limits (record { goods = n; bids = [] })
-no_bids limits n = record { bids = omega arith; negatives = none_past limits.negatives; cells = rw (no_cells n) (none_past limits.cells) }
+no_bids limits n = record { bids = omega arith; negatives = none_past limits.negatives; cells = rw (cells_none n) (none_past limits.cells) }
 
 none_yet : (limits : Limits) (n : ℕ) → AreFew limits n []
 none_yet limits n = record { each = All-nil (IsNamedBid n); names = omega arith; under = λ m. no_bids limits n }

@@ -1,6 +1,7 @@
-use Rattle.std.proofs.Common.{◌≡◌, ◌∙◌, sym, ap, subst, ◌<◌, ◌≤◌, ℕ, List, [], Some, None, Result, Ok, Err, IfOk, length, cond, true, false, Bool, arith, rules}
+use Rattle.std.proofs.Common.{◌≡◌, ◌∙◌, sym, ap, subst, ◌<◌, ◌≤◌, ℕ, List, [], Some, None, length, cond, true, false, Bool, arith}
 use Rattle.std.specs.Prelude.{nat_le}
 use Rattle.std.proofs.lemmas.Bool.Decides.{nat_tests}
+use Rattle.std.proofs.lemmas.Result.{IfOk-weaker}
 use Rattle.mix_bids.specs.Bids.{Book, IsBid}
 use Rattle.mix_text.specs.Bidders.{Named, list_at, place_of, with_bid_at}
 use Rattle.mix_text.specs.Reading.{NamedBid, bidders_of, limit_of, list_limit_of}
@@ -8,11 +9,6 @@ use Rattle.mix_text.specs.declared.faults.What.TheVariants as what
 use Rattle.mix_text.specs.declared.formats.Limits.{Limits}
 use Rattle.mix_text.proofs.Bids.{gathers_more, limit_more, limit_new, list_there}
 use Rattle.mix_text.proofs.reading.add_bid.Goals as goal
-
--- what holds of an answer may be weakened
-if_ok : {A E : Type 0} (P Q : A → Type 0) (r : Result A E) → ((x : A) → P x → Q x) → IfOk r P → IfOk r Q
-if_ok P Q (Ok x) f h = f x h
-if_ok P Q (Err e) f h = search rules
 
 -- the limit of a first bid, where bidders are too many, and where they aren't
 first_past : (limits : Limits) (n : ℕ) (bids : List NamedBid) (b : NamedBid) → place_of b.name (bidders_of n bids) ≡ None → limits.bidders ≤ length (bidders_of n bids)
@@ -37,14 +33,14 @@ push_within-requires-clause-bid c =
 
 pub returns-in-Some-clause-limit : goal.returns-in-Some-clause-limit
 returns-in-Some-clause-limit c =
-    if_ok (λ limit. limit ≡ list_limit_of c.args.limits.now (list_at c.args.bidders.now c.in-Some.k) c.args.bid) _ c.push_within.result (λ limit passed before same.
+    IfOk-weaker c.push_within.result (λ limit. limit ≡ list_limit_of c.args.limits.now (list_at c.args.bidders.now c.in-Some.k) c.args.bid) _ (λ limit passed before same.
     (let b : NamedBid = record { name = c.args.name.bytes; bid = c.args.bid } in
     let place : place_of c.args.name.bytes (bidders_of c.args.goods before) ≡ Some c.in-Some.k = ap (place_of c.args.name.bytes) (sym same) ∙ sym c.find.ensures.place ∙ c.in-Some.is in
     passed ∙ ap (λ (z : Named). list_limit_of c.args.limits.now (list_at z c.in-Some.k) c.args.bid) same ∙ sym (limit_more c.args.limits.now c.args.goods before b c.in-Some.k place))) c.push_within.ensures.limit
 
 pub returns-in-Some-clause-added : goal.returns-in-Some-clause-added
 returns-in-Some-clause-added c =
-    if_ok (λ limit. limit ≡ None → c.push_within.new.self ≡ with_bid_at c.args.bidders.now c.in-Some.k c.args.bid) _ c.push_within.result (λ limit added before same none.
+    IfOk-weaker c.push_within.result (λ limit. limit ≡ None → c.push_within.new.self ≡ with_bid_at c.args.bidders.now c.in-Some.k c.args.bid) _ (λ limit added before same none.
     (let b : NamedBid = record { name = c.args.name.bytes; bid = c.args.bid } in
     let place : place_of c.args.name.bytes (bidders_of c.args.goods before) ≡ Some c.in-Some.k = ap (place_of c.args.name.bytes) (sym same) ∙ sym c.find.ensures.place ∙ c.in-Some.is in
     added none ∙ ap (λ (z : Named). with_bid_at z c.in-Some.k c.args.bid) same ∙ sym (gathers_more c.args.goods before b c.in-Some.k place))) c.push_within.ensures.added
@@ -57,7 +53,7 @@ returns-then-count-limits-clause-limit c = λ before same.
 
 pub returns-else-count-limits-clause-limit : goal.returns-else-count-limits-clause-limit
 returns-else-count-limits-clause-limit c =
-    if_ok (λ limit. limit ≡ list_limit_of c.args.limits.now (record { goods = c.args.goods; bids = [] }) c.args.bid) _ c.add_bidder.result (λ limit passed before same.
+    IfOk-weaker c.add_bidder.result (λ limit. limit ≡ list_limit_of c.args.limits.now (record { goods = c.args.goods; bids = [] }) c.args.bid) _ (λ limit passed before same.
     (let b : NamedBid = record { name = c.args.name.bytes; bid = c.args.bid } in
     let place : place_of c.args.name.bytes (bidders_of c.args.goods before) ≡ None = ap (place_of c.args.name.bytes) (sym same) ∙ sym c.find.ensures.place ∙ c.in-None.is in
     let room : length (bidders_of c.args.goods before) < c.args.limits.now.bidders = let count = ap (λ (z : Named). length z) same in omega (arith, c.count.ensures) in
