@@ -142,8 +142,8 @@ fn limits(rt: HostRuntime) -> Result<(), Fail> {
             4,
             b"limit,17,negatives\n",
         ),
-        (b"", b"\n", 4_194_304, b"", 3, b"fault,1,end\n"),
-        (b"", b"\n", 4_194_305, b"", 4, b"limit,0,bytes\n"),
+        (b"", b"\n", 16_777_216, b"", 3, b"fault,1,end\n"),
+        (b"", b"\n", 16_777_217, b"", 4, b"limit,0,bytes\n"),
     ];
     for (front, line, count, tail, status, output) in cases {
         let text = text_of(alloc, front, line, count, tail)?;
