@@ -5,6 +5,7 @@ mod MoreOffers
 pub mod BestChoices
 pub mod BestMultiples
 pub mod Cases
+pub mod CellPushes
 pub mod FacetsAtPrices
 pub mod Falls
 pub mod Far
@@ -19,4 +20,5 @@ pub mod Pairs
 pub mod Products
 pub mod Sets
 pub mod Tallies
+pub mod Uniques
 pub mod Weights

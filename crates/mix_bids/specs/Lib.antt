@@ -1,5 +1,8 @@
 pub mod Offers
 pub mod Bids
+pub mod Leads
+pub mod Levels
+pub mod Cells
 pub mod Convexity
 pub mod Facets
 pub mod Reaches

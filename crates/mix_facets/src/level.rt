@@ -2,10 +2,10 @@
 ghost use Rattle.std.specs.Prelude.{◌≡◌, ◌<◌, ◌≤◌, ◌++◌, ◌∷◌, [], cond, length, slice_index_or, IfOk, OnOk};
 ghost use Rattle.mix_num.specs.Ranges.{Lies};
 ghost use Rattle.mix_bids.specs.Bids.{AreBids, IsBid};
-ghost use Rattle.mix_facets.specs.Planes.{bids_of, has_lead, level_at, places as places_where, IsLevelOf};
+ghost use Rattle.mix_bids.specs.Levels.{has_lead};
+ghost use Rattle.mix_facets.specs.Planes.{bids_of, level_at, places as places_where, IsLevelOf};
 
-use crate::lead::lead;
-use mix_bids::{Bid, BidList};
+use mix_bids::{Bid, BidList, lead};
 use mix_num::Memory;
 use std::alloc::Global;
 use std::marker::Model;
