@@ -1,19 +1,19 @@
 -- How the number of cells changes when a bid comes at the end of a list.
-use Rattle.std.proofs.Common.{◌≡◌, ◌≢◌, ℕ, zero, suc, ◌+◌, ◌*◌, ◌≤◌, ◌<◌, Bool, true, false, cond, eqb, ◌||◌, List, [], ◌∷◌, ◌++◌, ℤ, pos, Option, Some, None, refl, arith, sym, ap, ap₂, ◌∙◌, int_eq, int_lt, true≢false, filter, filter_map}
+use Rattle.std.proofs.Common.{◌≡◌, ◌≢◌, ℕ, zero, suc, ◌+◌, ◌-◌, ◌*◌, ◌≤◌, ◌<◌, Bool, true, false, cond, List, [], ◌∷◌, ◌++◌, ℤ, pos, Option, Some, None, refl, arith, sym, ap, ap₂, ◌∙◌, int_eq, int_lt, filter_map}
 use Rattle.std.specs.List.{cons_option, sum_by}
 use Rattle.std.specs.Set.{distinct_count}
 use Rattle.std.proofs.lemmas.List.Elements.{filter-append, filter_map-append}
 use Rattle.std.proofs.lemmas.List.{append-nil}
 use Rattle.std.proofs.lemmas.Nat.{mul-le}
 use Rattle.mix_num.proofs.Equalities.{int_eq_is}
-use Rattle.mix_bids.specs.Offers.{pair}
 use Rattle.mix_bids.specs.Bids.{Book}
 use Rattle.mix_bids.specs.Leads.{lead_of, negative_lead}
-use Rattle.mix_bids.specs.Levels.{is_lead, has_lead, level_bids, differences}
+use Rattle.mix_bids.specs.Levels.{is_lead, has_lead, level_bids, differences, other}
 use Rattle.mix_bids.specs.Cells.{sum_below, product_below, level_leads, factor, level_cells, pair_cells, cells}
+use Rattle.mix_bids.specs.Counted.{growth, is_among, level_lead, new_in}
 use Rattle.mix_bids.specs.declared.bid.Bid.{Bid}
 use Rattle.mix_bids.proofs.Cases.{by_test}
-use Rattle.mix_bids.proofs.Uniques.{is_among, uniques, sum_changed, sum_push, distinct_push}
+use Rattle.mix_bids.proofs.Uniques.{uniques, sum_changed, sum_push, distinct_push}
 
 -- one more at the end, if there is one
 abbrev pub with_option : List ℤ → Option ℤ → List ℤ
@@ -28,10 +28,6 @@ differences_push i j bs b = filter_map-append (λ b. negative_lead b i j) bs (b 
     last : (us : List ℤ) (o : Option ℤ) → us ++ filter_map (λ o. o) (o ∷ []) ≡ with_option us o
     last us None = append-nil us
     last us (Some u) = refl
-
--- what a bid adds to a level's leads of c: its lead, if it is a bid of negative weight of the level that offers c
-abbrev pub level_lead : ℕ → ℕ → ℤ → ℕ → Bid → Option ℤ
-level_lead i j d c b = cond (has_lead i j d b) (negative_lead b c i) None
 
 pub leads_push : (i j : ℕ) (d : ℤ) (c : ℕ) (bs : List Bid) (b : Bid) → level_leads i j d c (bs ++ b ∷ []) ≡ with_option (level_leads i j d c bs) (level_lead i j d c b)
 leads_push i j d c bs b =
@@ -59,11 +55,6 @@ no_lead i j d c b h = at (lead_of b i j) (int_lt b.weight (pos 0)) (lead_of b c 
 
 -- ---- factors, levels and pairs
 
--- 1 where the last number is there and isn't among the others
-abbrev pub new_in : List ℤ → Option ℤ → ℕ
-new_in us None = 0
-new_in us (Some u) = cond (is_among us u) 0 1
-
 pub distinct_with : (us : List ℤ) (o : Option ℤ) → distinct_count int_eq (with_option us o) ≡ distinct_count int_eq us + new_in us o
 distinct_with us None = omega arith
 distinct_with us (Some u) = distinct_push us u
@@ -84,18 +75,17 @@ unfolding product_below
 product_same zero f g h = refl
 product_same (suc m) f g h = ap₂ (λ x y. x * y) (product_same m f g (λ c l. h c (omega arith))) (h m (omega arith))
 
-cond_le : (t : Bool) (x y : ℕ) → x ≤ y → cond t 1 x ≤ cond t 1 y
-cond_le true x y h = omega arith
-cond_le false x y h = h
-
 pub level_rises : (n i j : ℕ) (bs : List Bid) (b : Bid) (d : ℤ) → level_cells n i j bs d ≤ level_cells n i j (bs ++ b ∷ []) d
 unfolding level_cells
-level_rises n i j bs b d = product_le (suc n) _ _ (λ c l. cond_le (pair i j c) _ _ (let e = factor_push i j d bs b c in omega (arith, e)))
+level_rises n i j bs b d = product_le (n - 1) _ _ (λ k l. let e = factor_push i j d bs b (other i j k) in omega (arith, e))
 
 pub level_stays : (n i j : ℕ) (bs : List Bid) (b : Bid) (d : ℤ) → negative_lead b i j ≢ Some d → level_cells n i j bs d ≡ level_cells n i j (bs ++ b ∷ []) d
 unfolding level_cells
-level_stays n i j bs b d h = product_same (suc n) _ _ (λ c l. ap (cond (pair i j c) 1)
-    (let e = factor_push i j d bs b c in let z = ap (new_in (level_leads i j d c bs)) (no_lead i j d c b h) in omega (arith, e, z)))
+level_stays n i j bs b d h = product_same (n - 1) _ _ (λ k l.
+    let c = other i j k in
+    let e = factor_push i j d bs b c in
+    let z = ap (new_in (level_leads i j d c bs)) (no_lead i j d c b h) in
+    omega (arith, e, z))
 
 -- a bid that offers the two choices and is of negative weight changes the cells of its level, from none where the level is new
 pub pair_grows : (n i j : ℕ) (bs : List Bid) (b : Bid) (d : ℤ) → negative_lead b i j ≡ Some d →
@@ -166,3 +156,21 @@ cells_none n = zeros (suc n) _ (λ j. zeros j _ (λ i. refl))
     zeros : (m : ℕ) (f : ℕ → ℕ) → ((k : ℕ) → f k ≡ 0) → sum_below m f ≡ 0
     zeros zero f h = refl
     zeros (suc m) f h = let a = zeros m f h in let b = h m in omega (arith, a, b)
+
+sum_more : (m : ℕ) (f g : ℕ → ℕ) → ((k : ℕ) → k < m → f k ≤ g k) → sum_below m g ≡ sum_below m f + sum_below m (λ k. g k - f k)
+unfolding sum_below
+sum_more zero f g h = refl
+sum_more (suc m) f g h = let a = sum_more m f g (λ k l. h k (omega arith)) in let b = h m (omega arith) in omega (arith, a, b)
+
+sum_same : (m : ℕ) (f g : ℕ → ℕ) → ((k : ℕ) → k < m → f k ≡ g k) → sum_below m f ≡ sum_below m g
+unfolding sum_below
+sum_same zero f g h = refl
+sum_same (suc m) f g h = ap₂ (λ x y. x + y) (sum_same m f g (λ k l. h k (omega arith))) (h m (omega arith))
+
+-- the number of cells grows by the growths of all pairs
+pub cells_grow : (n : ℕ) (bs : List Bid) (b : Bid) → cells (record { goods = n; bids = bs ++ b ∷ [] }) ≡ cells (record { goods = n; bids = bs }) + sum_below (suc n) (λ j. sum_below j (λ i. growth n bs b i j))
+unfolding cells growth
+cells_grow n bs b =
+    sum_more (suc n) _ _ (λ j l. sum_le j _ _ (λ i k. pair_rises n i j bs b))
+    ∙ ap (λ z. cells (record { goods = n; bids = bs }) + z) (sum_same (suc n) _ _ (λ j l.
+    let e = sum_more j (λ i. pair_cells n bs i j) (λ i. pair_cells n (bs ++ b ∷ []) i j) (λ i k. pair_rises n i j bs b) in omega (arith, e)))

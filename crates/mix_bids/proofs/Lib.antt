@@ -13,10 +13,12 @@ pub mod Gains
 pub mod HalfSteps
 pub mod Lengths
 pub mod Locals
+pub mod LevelTurns
 pub mod LongRaises
 pub mod Multiples
 pub mod Near
 pub mod Pairs
+pub mod Powers
 pub mod Products
 pub mod Sets
 pub mod Tallies

@@ -1,18 +1,15 @@
 -- Sums over the different numbers of a list, when a number comes at its end, and when a function changes at one number.
 use Rattle.std.proofs.Common.{◌≡◌, ◌≢◌, ℕ, ◌+◌, Bool, true, false, cond, ◌||◌, List, [], ◌∷◌, ◌++◌, ℤ, length, refl, arith, sym, ap, ap₂, ◌∙◌, int_eq, true≢false}
 use Rattle.std.specs.List.{sum_by}
-use Rattle.std.specs.Set.{is_member, unique_keys, distinct_count}
+use Rattle.std.specs.Set.{unique_keys, distinct_count}
 use Rattle.std.proofs.lemmas.List.Sums.{sum_by-cons}
 use Rattle.mix_num.proofs.Equalities.{int_eq_is}
+use Rattle.mix_bids.specs.Counted.{is_among}
 use Rattle.mix_bids.proofs.Cases.{by_test}
 
 -- the different numbers of a list
 abbrev pub uniques : List ℤ → List ℤ
 uniques us = unique_keys int_eq us
-
--- whether a number is in a list
-abbrev pub is_among : List ℤ → ℤ → Bool
-is_among us u = is_member int_eq us u
 
 sum_cond : (f : ℤ → ℕ) (t : Bool) (xs ys : List ℤ) → sum_by f (cond t xs ys) ≡ cond t (sum_by f xs) (sum_by f ys)
 sum_cond f true xs ys = refl
@@ -32,7 +29,7 @@ among_push (w ∷ us) u v = ap (λ z. int_eq v w || z) (among_push us u v) ∙ e
     either_assoc true b c = refl
     either_assoc false b c = refl
 
-int_eq_swap : (u v : ℤ) → int_eq u v ≡ int_eq v u
+pub int_eq_swap : (u v : ℤ) → int_eq u v ≡ int_eq v u
 int_eq_swap u v = by_test (int_eq u v)
     (λ h. h ∙ sym ((int_eq_is v u).1 (sym ((int_eq_is u v).0 h))))
     (λ h. by_test (int_eq v u) (λ k. (int_eq_is u v).1 (sym ((int_eq_is v u).0 k)) ∙ sym k) (λ k. h ∙ sym k))
@@ -62,9 +59,9 @@ sum_changed f g e [] h = refl
 sum_changed f g e (w ∷ us) h =
     ap (λ s. s + cond (is_among (w ∷ us) e) (f e) 0) (sum_step g w us)
     ∙ turn (is_among us w) (int_eq e w) (is_among us e) (f w) (g w) (f e) (g e) (sum_by f (uniques us)) (sum_by g (uniques us))
-        (λ t. let q = (int_eq_is e w).0 t in (ap (is_among us) (sym q), ap f (sym q), ap g (sym q)))
-        (λ t. h w (λ q. true≢false (sym ((int_eq_is e w).1 (sym q)) ∙ t)))
-        (sum_changed f g e us h)
+    (λ t. let q = (int_eq_is e w).0 t in (ap (is_among us) (sym q), ap f (sym q), ap g (sym q)))
+    (λ t. h w (λ q. true≢false (sym ((int_eq_is e w).1 (sym q)) ∙ t)))
+    (sum_changed f g e us h)
     ∙ ap (λ s. s + cond (is_among (w ∷ us) e) (g e) 0) (sym (sum_step f w us))
   where
     turn : (a b c : Bool) (x y p q s t : ℕ) → (b ≡ true → (a ≡ c) × (x ≡ p) × (y ≡ q)) → (b ≡ false → x ≡ y) → t + cond c p 0 ≡ s + cond c q 0

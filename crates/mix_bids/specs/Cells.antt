@@ -1,12 +1,11 @@
 -- The number of cells of a list: how many points the grids of its levels have together, over all levels of all pairs of choices.
-use Rattle.std.specs.Prelude.{ℕ, zero, suc, ◌+◌, ◌*◌, cond, eqb, List, ℤ, filter_map}
+use Rattle.std.specs.Prelude.{ℕ, zero, suc, ◌+◌, ◌-◌, ◌*◌, cond, eqb, List, ℤ, filter_map}
 use Rattle.std.specs.List.{sum_by}
 use Rattle.std.specs.Ordering.{int_eq}
 use Rattle.std.specs.Set.{distinct_count, unique_keys}
-use Rattle.mix_bids.specs.Offers.{pair}
 use Rattle.mix_bids.specs.Bids.{Book}
 use Rattle.mix_bids.specs.Leads.{negative_lead}
-use Rattle.mix_bids.specs.Levels.{differences, level_bids}
+use Rattle.mix_bids.specs.Levels.{differences, level_bids, other}
 use Rattle.mix_bids.specs.declared.bid.Bid.{Bid}
 
 -- the sum and the product of what a function gives below m
@@ -26,9 +25,9 @@ level_leads i j d c bs = filter_map (λ b. negative_lead b c i) (level_bids i j 
 unfoldable pub factor : ℕ → ℕ → ℤ → List Bid → ℕ → ℕ
 factor i j d bs c = cond (eqb c 0) 0 1 + distinct_count int_eq (level_leads i j d c bs)
 
--- the cells of a level of i and j over n goods: the product of the factors of the other choices
+-- the cells of a level of i and j over n goods: the product of the factors of the n - 1 other choices
 unfoldable pub level_cells : ℕ → ℕ → ℕ → List Bid → ℤ → ℕ
-level_cells n i j bs d = product_below (suc n) (λ c. cond (pair i j c) 1 (factor i j d bs c))
+level_cells n i j bs d = product_below (n - 1) (λ k. factor i j d bs (other i j k))
 
 -- the cells of all levels of i and j
 unfoldable pub pair_cells : ℕ → List Bid → ℕ → ℕ → ℕ

@@ -1,5 +1,5 @@
--- Levels: the differences at which the bids of negative weight are torn between two choices, and the bids that are torn there.
-use Rattle.std.specs.Prelude.{ℕ, Bool, false, List, ℤ, Option, Some, None, filter, filter_map}
+-- Levels: the differences at which the bids of negative weight are torn between two choices, the bids that are torn there, and the other choices.
+use Rattle.std.specs.Prelude.{ℕ, suc, Bool, false, cond, ltb, List, ℤ, Option, Some, None, filter, filter_map}
 use Rattle.std.specs.Ordering.{int_eq}
 use Rattle.mix_bids.specs.Leads.{lead_of, negative_lead}
 use Rattle.mix_bids.specs.declared.bid.Bid.{Bid}
@@ -20,3 +20,7 @@ level_bids i j d bs = filter (has_lead i j d) bs
 -- the differences of i and j that bids of negative weight have
 abbrev pub differences : ℕ → ℕ → List Bid → List ℤ
 differences i j bs = filter_map (λ b. negative_lead b i j) bs
+
+-- the choice at place k among those other than i and j
+abbrev pub other : ℕ → ℕ → ℕ → ℕ
+other i j k = cond (ltb k i) k (cond (ltb (suc k) j) (suc k) (suc (suc k)))

@@ -3,6 +3,7 @@ pub mod Bids
 pub mod Leads
 pub mod Levels
 pub mod Cells
+pub mod Counted
 pub mod Convexity
 pub mod Facets
 pub mod Reaches

@@ -17,6 +17,6 @@ mod tests;
 
 pub use best::best_set;
 pub use bid::{Bid, Values};
-pub use leads::{lead, negative_lead};
+pub use leads::{has_difference, lead, negative_lead, other};
 pub use list::BidList;
 pub use scales::utility_at_scales;

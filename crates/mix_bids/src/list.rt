@@ -7,8 +7,8 @@ ghost use Rattle.mix_bids.specs.Bids.{facet_weight as facet_weight_of, top_value
 
 use crate::best::best_set;
 use crate::bid::Bid;
-use crate::counts::cells_with;
 use crate::choices::{lies_in, meets, pair_of};
+use crate::counts::cells_with;
 use crate::gain::{better, gain};
 use crate::sums::{weigh, weight_where};
 use mix_num::{Memory, Prices, Set};

@@ -10,7 +10,7 @@ use Rattle.mix_bids.specs.declared.bid.Bid.{Bid}
 use Rattle.mix_bids.specs.Leads.{lead, lead_of, negative_lead}
 use Rattle.mix_bids.specs.Levels.{is_lead, has_lead, level_bids, differences}
 use Rattle.mix_facets.specs.Planes.{Plane, bids_of, IsLevelOf}
-use Rattle.mix_facets.specs.Points.{other}
+use Rattle.mix_bids.specs.Levels.{other}
 use Rattle.mix_facets.specs.Candidates.{candidates}
 use Rattle.mix_facets.specs.Grids.{size_of, IsGridOf}
 use Rattle.mix_facets.proofs.Counts.{lead_is}
