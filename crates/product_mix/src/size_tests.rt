@@ -1,5 +1,5 @@
 // Every command on auctions at the greatest sizes: none of them gives up there, where memory is ample.
-use crate::tests::{call, text_of};
+use crate::tests::{call, call_at_once, text_of};
 use std::alloc::Global;
 use std::test::Fail;
 
@@ -77,14 +77,26 @@ fn more_bidders(alloc: Global) -> Result<Vec<u8>, Fail> {
 }
 
 #[test]
-fn the_greatest_sizes_of_the_second_format(rt: HostRuntime) -> Result<(), Fail> {
+fn many_negative_bids(rt: HostRuntime) -> Result<(), Fail> {
     let alloc = rt.alloc();
     let negatives = many_negatives(alloc)?;
     assert!(rt; all_done(alloc, &negatives, b"price,1,2,3,4,5,6,7,8\n")?);
+    Ok(())
+}
+
+#[test]
+fn many_bids_for_eight_goods(rt: HostRuntime) -> Result<(), Fail> {
+    let alloc = rt.alloc();
     let bids = text_of(alloc, EIGHT_GOODS, b"bid,P,1,9,8,7,6,5,4,3,2\n", 400, b"end\n")?;
     assert!(rt; all_done(alloc, &bids, b"price,1,2,3,4,5,6,7,8\n")?);
+    Ok(())
+}
+
+#[test]
+fn many_bidders_for_eight_goods(rt: HostRuntime) -> Result<(), Fail> {
+    let alloc = rt.alloc();
     let bidders = more_bidders(alloc)?;
-    assert!(rt; all_done(alloc, &bidders, b"price,1,2,3,4,5,6,7,8\n")?);
+    assert!(rt; done(alloc, "prices", &bidders, b"")?.is_some());
     Ok(())
 }
 
@@ -97,13 +109,18 @@ fn the_greatest_sizes(rt: HostRuntime) -> Result<(), Fail> {
     assert!(rt; all_done(alloc, &bids, b"price,1,2,3,4,5\n")?);
     let bidders = many_bidders(alloc)?;
     assert!(rt; all_done(alloc, &bidders, b"price,1\n")?);
-    let long = text_of(
-        alloc,
-        b"mix,1\ngoods,A\nsupply,1\nreserve,0\nbid,P,1,5\n",
-        b"\n",
-        16_777_000,
-        b"end\n",
-    )?;
-    assert!(rt; all_done(alloc, &long, b"price,1\n")?);
+    Ok(())
+}
+
+// As many bytes as a text may have; all after the last row are blank lines.
+#[test]
+fn the_longest_text(rt: HostRuntime) -> Result<(), Fail> {
+    let alloc = rt.alloc();
+    let mut text = vec![in alloc; b'\n'; 16_777_216]?;
+    let rows = b"mix,1\ngoods,A\nsupply,1\nreserve,0\nbid,P,1,5\nend\n";
+    text[..rows.len()].copy_from_slice(rows);
+    let (status, sink) = call_at_once(alloc, "prices", text)?;
+    assert_eq!(rt; status, 0);
+    assert_eq!(rt; sink.bytes(), b"price,0\nend\n".as_slice());
     Ok(())
 }
