@@ -53,7 +53,7 @@ fn with_line(alloc: Global, place: usize, line: &[u8]) -> Result<Vec<u8>, Fail> 
 
 // The outcome of a text as it is printed again, or the first fault.
 fn read_and_print(alloc: Global, text: &[u8]) -> Result<Result<Vec<u8>, Fault>, Fail> {
-    if text.len() > 4_194_304 {
+    if text.len() > 16_777_216 {
         return Err("too long".into());
     }
     let (auction, rest) = read_auction(alloc, text)?;

@@ -1,5 +1,9 @@
 pub mod Offers
 pub mod Bids
+pub mod Leads
+pub mod Levels
+pub mod Cells
+pub mod Counted
 pub mod Convexity
 pub mod Facets
 pub mod Reaches

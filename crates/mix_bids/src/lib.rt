@@ -5,7 +5,9 @@ mod all_sets;
 mod best;
 mod bid;
 mod choices;
+mod counts;
 mod gain;
+mod leads;
 mod list;
 mod reach;
 mod scales;
@@ -15,5 +17,6 @@ mod tests;
 
 pub use best::best_set;
 pub use bid::{Bid, Values};
+pub use leads::{has_difference, lead, negative_lead, other};
 pub use list::BidList;
 pub use scales::utility_at_scales;

@@ -1,34 +1,38 @@
 // A list of bids over the same goods.
-ghost use Rattle.std.specs.Prelude.{◌≡◌, ◌≤◌, ◌<◌, ◌++◌, ◌∷◌, [], length, pos, ◌≤ℤ◌, ◌-ℤ◌, OnErr, OnOk, IfOk};
+ghost use Rattle.std.specs.Prelude.{◌≡◌, ◌≤◌, ◌<◌, ◌↔◌, min, ◌++◌, ◌∷◌, [], length, pos, ◌≤ℤ◌, ◌-ℤ◌, OnErr, OnOk, IfOk};
 ghost use Rattle.mix_num.specs.Vectors.{members, minus, plus, with_null};
 ghost use Rattle.mix_num.specs.Ranges.{ArePrices, Lies};
+ghost use Rattle.mix_bids.specs.Cells.{cells as cells_of};
 ghost use Rattle.mix_bids.specs.Bids.{facet_weight as facet_weight_of, top_value, total_weight, utility as utility_of, weight_meeting, weight_within, AreBids, IsBid};
 
 use crate::best::best_set;
 use crate::bid::Bid;
 use crate::choices::{lies_in, meets, pair_of};
+use crate::counts::cells_with;
 use crate::gain::{better, gain};
 use crate::sums::{weigh, weight_where};
 use mix_num::{Memory, Prices, Set};
 use std::alloc::Global;
 use std::marker::Model;
 
-/// At most 400 bids over 1 to 8 goods.
+/// At most 400 bids over 1 to 8 goods, and how many cells they have, counted to 4,194,305.
 #[derive(Drop)]
 pub struct BidList {
     goods: usize,
     bids: Vec<Bid>,
+    cells: u64,
 }
 
 impl Model for BidList {
-    ghost use Rattle.std.specs.Prelude.{◌≤◌, length};
+    ghost use Rattle.std.specs.Prelude.{◌≡◌, ◌≤◌, length, min};
     ghost use Rattle.mix_bids.specs.Bids.{AreBids, Book};
+    ghost use Rattle.mix_bids.specs.Cells.{cells as cells_of};
 
     ghost Value = { Book };
 
     ghost view = { λ list. record { goods = list.goods; bids = list.bids.items } };
 
-    ghost invariant = { λ list. (1 ≤ list.goods) × (list.goods ≤ 8) × (length list.bids.items ≤ 400) × AreBids list.goods list.bids.items };
+    ghost invariant = { λ list. (1 ≤ list.goods) × (list.goods ≤ 8) × (length list.bids.items ≤ 400) × AreBids list.goods list.bids.items × (list.cells ≡ min (cells_of (record { goods = list.goods; bids = list.bids.items })) 4194305) };
 }
 
 impl BidList {
@@ -40,6 +44,7 @@ impl BidList {
         BidList {
             goods,
             bids: Vec::new(alloc),
+            cells: 0,
         }
     }
 
@@ -50,9 +55,11 @@ impl BidList {
         ensures ok { OnOk result (self.new ≡ record self.old { bids = self.old.bids ++ bid ∷ [] }) }
         ensures err { OnErr result (self.new ≡ self.old) }
     {
+        let cells = cells_with(self.goods, &self.bids, self.cells, &bid);
         let Ok(()) = self.bids.push(bid) else {
             return Err(Memory);
         };
+        self.cells = cells;
         Ok(())
     }
 
@@ -83,6 +90,14 @@ impl BidList {
         ensures proper { AreBids self.now.goods result.now }
     {
         &self.bids
+    }
+
+    /// The number of cells, or 4,194,305 where there are more. It takes no memory.
+    pub fn cells(&self) -> u64
+        ensures value { result ≡ min (cells_of self.now) 4194305 }
+        ensures limit { (4194304 < result) ↔ (4194304 < cells_of self.now) }
+    {
+        self.cells
     }
 
     /// The indirect utility at the prices: the sum of weight times gain. Its size is at most 2 * 10^13. It takes no memory.

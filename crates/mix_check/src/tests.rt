@@ -28,7 +28,7 @@ fn verdict(alloc: Global, auction: &[u8], lines: [&[u8]; 7]) -> Result<Verdict, 
     for line in lines {
         text.extend_from_slice(line)?;
     }
-    if text.len() > 4_194_304 {
+    if text.len() > 16_777_216 {
         return Err("a shorter text".into());
     }
     let (auction, rest) = read_auction(alloc, &text)?;

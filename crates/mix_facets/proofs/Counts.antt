@@ -12,8 +12,8 @@ use Rattle.mix_bids.proofs.Sets.{all_to-true, all_to-intro}
 use Rattle.mix_bids.proofs.Gains.{offered_within}
 use Rattle.mix_num.proofs.Equalities.{int_eq_is}
 use Rattle.mix_bids.proofs.Lengths.{AreOver, first_over, rest_over}
-use Rattle.mix_facets.specs.Leads.{lead, lead_of}
-use Rattle.mix_facets.specs.Planes.{is_lead, has_lead, level_bids}
+use Rattle.mix_bids.specs.Leads.{lead, lead_of}
+use Rattle.mix_bids.specs.Levels.{is_lead, has_lead, level_bids}
 use Rattle.mix_facets.specs.Counted.{is_below, is_counted, weight_counted}
 use Rattle.mix_facets.proofs.Exacts.{IsTorn, not_pair, torn_of, torn_to}
 

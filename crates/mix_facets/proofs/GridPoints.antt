@@ -7,9 +7,10 @@ use Rattle.mix_num.proofs.Equalities.{int_eq_is}
 use Rattle.mix_bids.specs.Offers.{offer}
 use Rattle.mix_bids.specs.Bids.{Book}
 use Rattle.mix_bids.specs.declared.bid.Bid.{Bid}
-use Rattle.mix_facets.specs.Leads.{lead, lead_of, negative_lead}
-use Rattle.mix_facets.specs.Planes.{Plane, is_lead, has_lead, level_bids, differences, bids_of, IsLevelOf}
-use Rattle.mix_facets.specs.Points.{other}
+use Rattle.mix_bids.specs.Leads.{lead, lead_of, negative_lead}
+use Rattle.mix_bids.specs.Levels.{is_lead, has_lead, level_bids, differences}
+use Rattle.mix_facets.specs.Planes.{Plane, bids_of, IsLevelOf}
+use Rattle.mix_bids.specs.Levels.{other}
 use Rattle.mix_facets.specs.Candidates.{candidates}
 use Rattle.mix_facets.specs.Grids.{size_of, IsGridOf}
 use Rattle.mix_facets.proofs.Counts.{lead_is}

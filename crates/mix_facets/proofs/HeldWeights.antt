@@ -10,9 +10,10 @@ use Rattle.mix_bids.proofs.Lengths.{AreOver}
 use Rattle.mix_bids.proofs.Pairs.{pair_first, pair_second}
 use Rattle.mix_bids.proofs.Sets.{all_to-true, all_to-intro}
 use Rattle.mix_facets.specs.Counted.{is_below, stays_below, is_counted, weight_counted}
-use Rattle.mix_facets.specs.Leads.{lead_of}
+use Rattle.mix_bids.specs.Leads.{lead_of}
 use Rattle.mix_facets.specs.Planes.{Plane, bids_of, IsLevelOf}
-use Rattle.mix_facets.specs.Points.{other, place, coordinate, prices_at}
+use Rattle.mix_bids.specs.Levels.{other}
+use Rattle.mix_facets.specs.Points.{place, coordinate, prices_at}
 use Rattle.mix_facets.specs.Grids.{size_of, point_at, IsRising, IsGridOf}
 use Rattle.mix_facets.specs.Cells.{first_place, leads, holds, weight_held}
 use Rattle.mix_facets.proofs.Exacts.{not_pair}

@@ -12,9 +12,11 @@ use Rattle.mix_bids.specs.Bids.{Book, facet_weight}
 use Rattle.mix_bids.specs.declared.bid.Bid.{Bid}
 use Rattle.mix_bids.proofs.Sets.{all_to-true}
 use Rattle.mix_bids.proofs.Lengths.{AreOver}
-use Rattle.mix_facets.specs.Leads.{lead, lead_of, negative_lead}
-use Rattle.mix_facets.specs.Planes.{has_lead, level_bids, differences, Plane, IsLevelOf}
-use Rattle.mix_facets.specs.Points.{other, place, coordinate, prices_at, IsCoordinate, IsNullCoordinate, IsPoint}
+use Rattle.mix_bids.specs.Leads.{lead, lead_of, negative_lead}
+use Rattle.mix_bids.specs.Levels.{has_lead, level_bids, differences}
+use Rattle.mix_facets.specs.Planes.{Plane, IsLevelOf}
+use Rattle.mix_bids.specs.Levels.{other}
+use Rattle.mix_facets.specs.Points.{place, coordinate, prices_at, IsCoordinate, IsNullCoordinate, IsPoint}
 use Rattle.mix_facets.specs.Counted.{is_below, is_counted, weight_counted}
 use Rattle.mix_facets.specs.Candidates.{candidates}
 use Rattle.mix_facets.specs.Grids.{size_of, point_at, IsOn, IsGridOf}

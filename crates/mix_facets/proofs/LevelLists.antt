@@ -6,7 +6,8 @@ use Rattle.std.proofs.lemmas.List.Elements.{Contains-get_or}
 use Rattle.mix_num.specs.Vectors.{Vector}
 use Rattle.mix_bids.specs.Bids.{AreBids, Book, facet_weight}
 use Rattle.mix_bids.proofs.Lengths.{over_of}
-use Rattle.mix_facets.specs.Planes.{Plane, differences, level_at, IsLevelOf, AreLevelsOf}
+use Rattle.mix_bids.specs.Levels.{differences}
+use Rattle.mix_facets.specs.Planes.{Plane, level_at, IsLevelOf, AreLevelsOf}
 use Rattle.mix_facets.specs.Grids.{IsRising}
 use Rattle.mix_facets.proofs.Leasts.{negative_difference}
 use Rattle.mix_facets.proofs.Risings.{rising_at}

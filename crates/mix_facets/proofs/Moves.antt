@@ -9,7 +9,7 @@ use Rattle.mix_num.specs.Vectors.{Vector}
 use Rattle.mix_bids.specs.Offers.{pair}
 use Rattle.mix_bids.specs.declared.bid.Bid.{Bid}
 use Rattle.mix_bids.proofs.Sets.{all_to-true, all_to-intro}
-use Rattle.mix_facets.specs.Leads.{lead_of}
+use Rattle.mix_bids.specs.Leads.{lead_of}
 use Rattle.mix_facets.specs.Counted.{is_below, is_counted, weight_counted}
 use Rattle.mix_facets.specs.Candidates.{lesser, least_lead, counting_from, lowest, candidates}
 use Rattle.mix_facets.proofs.Members.{In, contains_first, contains_option, contains_behind}

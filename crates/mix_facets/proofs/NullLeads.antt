@@ -4,7 +4,7 @@ use Rattle.std.proofs.lemmas.Int.{ints}
 use Rattle.std.proofs.lemmas.List.Elements.{All-get_or}
 use Rattle.mix_bids.specs.Offers.{Offers, offer, AreOffers, IsOffer}
 use Rattle.mix_bids.specs.declared.bid.Bid.{Bid}
-use Rattle.mix_facets.specs.Leads.{lead, lead_of, negative_lead}
+use Rattle.mix_bids.specs.Leads.{lead, lead_of, negative_lead}
 
 offer_is : (n : ℕ) (vs : Offers) (k : ℕ) → AreOffers n vs → k ≤ n → IsOffer (offer vs k)
 offer_is n vs zero o l = λ v e. let q : pos 0 ≡ v = cc in (omega (arith, ints), omega (arith, ints))

@@ -1,7 +1,8 @@
 -- Coordinates and choices: each coordinate has its choice, and each other choice its coordinate.
 use Rattle.std.proofs.Common.{◌≡◌, ◌≢◌, ℕ, suc, ◌≤◌, ◌<◌, arith}
 use Rattle.std.proofs.lemmas.Bool.Decides.{nat_tests}
-use Rattle.mix_facets.specs.Points.{other, place}
+use Rattle.mix_bids.specs.Levels.{other}
+use Rattle.mix_facets.specs.Points.{place}
 
 pub other-place : (i j c : ℕ) → i < j → c ≢ i → c ≢ j → other i j (place i j c) ≡ c
 other-place i j c h p q = grind (arith, nat_tests)

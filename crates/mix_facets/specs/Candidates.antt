@@ -2,7 +2,7 @@
 use Rattle.std.specs.Prelude.{ℕ, cond, eqb, List, [], ◌∷◌, ◌++◌, ℤ, pos, ◌+ℤ◌, Option, Some, None, unwrap_or, option_map, filter_map}
 use Rattle.std.specs.Int.{int_min}
 use Rattle.mix_bids.specs.declared.bid.Bid.{Bid}
-use Rattle.mix_facets.specs.Leads.{lead_of, negative_lead}
+use Rattle.mix_bids.specs.Leads.{lead_of, negative_lead}
 
 -- the lesser of two numbers, or the one that is there
 abbrev pub lesser : Option ℤ → Option ℤ → Option ℤ

@@ -3,8 +3,8 @@ use Rattle.std.specs.Prelude.{◌≡◌, ◌≢◌, ℕ, zero, suc, ◌+◌, ◌
 use Rattle.mix_num.specs.Vectors.{Vector}
 use Rattle.mix_bids.specs.Bids.{weight_where}
 use Rattle.mix_bids.specs.declared.bid.Bid.{Bid}
-use Rattle.mix_facets.specs.Leads.{lead_of}
-use Rattle.mix_facets.specs.Points.{other}
+use Rattle.mix_bids.specs.Leads.{lead_of}
+use Rattle.mix_bids.specs.Levels.{other}
 
 -- the place of the first number above v, or how many there are
 abbrev pub first_above : List ℤ → ℤ → ℕ

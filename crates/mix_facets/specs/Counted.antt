@@ -4,7 +4,7 @@ use Rattle.mix_num.specs.Vectors.{Vector, Choices}
 use Rattle.mix_bids.specs.Bids.{weight_where}
 use Rattle.mix_bids.specs.Offers.{all_to, pair}
 use Rattle.mix_bids.specs.declared.bid.Bid.{Bid}
-use Rattle.mix_facets.specs.Leads.{lead_of}
+use Rattle.mix_bids.specs.Leads.{lead_of}
 
 -- whether a lead, where there is one, lies below u
 abbrev pub is_below : Option ℤ → ℤ → Bool

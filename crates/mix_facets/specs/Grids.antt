@@ -2,7 +2,8 @@
 use Rattle.std.specs.Prelude.{◌≡◌, ◌↔◌, ℕ, suc, ◌*◌, ◌/◌, ◌%◌, ◌<◌, ◌≤◌, List, [], ◌∷◌, ℤ, pos, ◌<ℤ◌, get_or, length, All, AllPairs, Contains}
 use Rattle.mix_bids.specs.Bids.{Book}
 use Rattle.mix_facets.specs.Planes.{Plane, bids_of}
-use Rattle.mix_facets.specs.Points.{other, IsCoordinate, IsNullCoordinate}
+use Rattle.mix_bids.specs.Levels.{other}
+use Rattle.mix_facets.specs.Points.{IsCoordinate, IsNullCoordinate}
 use Rattle.mix_facets.specs.Candidates.{candidates}
 
 -- the number of the points of a grid

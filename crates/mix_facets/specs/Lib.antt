@@ -1,4 +1,3 @@
-pub mod Leads
 pub mod Planes
 pub mod Points
 pub mod Counted

@@ -1,31 +1,13 @@
--- Levels: the differences at which the bids of negative weight are torn between two choices, and the bids that are torn there.
-use Rattle.std.specs.Prelude.{◌≡◌, ◌≢◌, ℕ, suc, ◌<◌, ◌≤◌, Bool, false, cond, List, [], ◌∷◌, ℤ, Option, Some, None, All, AllPairs, Any, Contains, filter, filter_map}
-use Rattle.std.specs.Ordering.{int_eq}
+-- The levels of a list: for two choices, a difference at which bids of negative weight are torn between them, and the places of all bids that are.
+use Rattle.std.specs.Prelude.{◌≡◌, ◌≢◌, ℕ, suc, ◌<◌, ◌≤◌, Bool, cond, List, [], ◌∷◌, ℤ, All, AllPairs, Any, Contains}
 use Rattle.mix_bids.specs.Bids.{Book}
 use Rattle.mix_bids.specs.declared.bid.Bid.{Bid}
-use Rattle.mix_facets.specs.Leads.{lead_of, negative_lead}
-
--- whether a lead is there and is d
-abbrev pub is_lead : Option ℤ → ℤ → Bool
-is_lead None d = false
-is_lead (Some v) d = int_eq v d
-
--- whether a bid offers i and j and values i above j by d
-abbrev pub has_lead : ℕ → ℕ → ℤ → Bid → Bool
-has_lead i j d b = is_lead (lead_of b i j) d
-
--- the bids of a level of i and j: those with the difference d
-abbrev pub level_bids : ℕ → ℕ → ℤ → List Bid → List Bid
-level_bids i j d bs = filter (has_lead i j d) bs
+use Rattle.mix_bids.specs.Levels.{differences, has_lead, level_bids}
 
 -- the places of the bids that pass a test, where the first bid has the place k
 abbrev pub places : (Bid → Bool) → ℕ → List Bid → List ℕ
 places p k [] = []
 places p k (b ∷ bs) = cond (p b) (k ∷ places p (suc k) bs) (places p (suc k) bs)
-
--- the differences of i and j that bids of negative weight have
-abbrev pub differences : ℕ → ℕ → List Bid → List ℤ
-differences i j bs = filter_map (λ b. negative_lead b i j) bs
 
 -- what contracts see of a level: two choices over some goods, their difference, and the places of its bids
 pub record Plane : Type 0 where

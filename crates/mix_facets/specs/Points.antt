@@ -3,10 +3,6 @@ use Rattle.std.specs.Prelude.{◌≡◌, ◌≢◌, ℕ, suc, ◌+◌, ◌-◌, 
 use Rattle.mix_num.specs.Vectors.{Vector}
 use Rattle.mix_facets.specs.Planes.{Plane}
 
--- the choice of the coordinate k, where i and j are left out
-abbrev pub other : ℕ → ℕ → ℕ → ℕ
-other i j k = cond (ltb k i) k (cond (ltb (suc k) j) (suc k) (suc (suc k)))
-
 -- the place of a choice among those other than i and j
 abbrev pub place : ℕ → ℕ → ℕ → ℕ
 place i j c = c - (cond (ltb i c) 1 0 + cond (ltb j c) 1 0)

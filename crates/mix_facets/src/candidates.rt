@@ -7,10 +7,9 @@ ghost use Rattle.mix_facets.specs.Points.{IsCoordinate, IsNullCoordinate};
 ghost use Rattle.mix_facets.specs.Candidates.{counting_from as counting_from_of, lesser as lesser_of, lowest as lowest_of};
 ghost use Rattle.mix_facets.specs.Grids.{AreCandidates};
 
-use crate::lead::{lead, negative_lead};
 use crate::level::Level;
 use crate::numbers::Numbers;
-use mix_bids::{Bid, BidList};
+use mix_bids::{Bid, BidList, lead, negative_lead};
 use mix_num::Memory;
 use std::alloc::Global;
 

@@ -3,18 +3,17 @@ ghost use Rattle.std.specs.Prelude.{◌≡◌, ℕ, suc, ◌+◌, ◌*◌, ◌^�
 ghost use Rattle.mix_num.specs.Vectors.{Vector, Agree};
 ghost use Rattle.mix_num.specs.Ranges.{Lies};
 ghost use Rattle.mix_bids.specs.Bids.{facet_weight, IsBid};
-ghost use Rattle.mix_facets.specs.Leads.{lead_of};
+ghost use Rattle.mix_bids.specs.Leads.{lead_of};
 ghost use Rattle.mix_facets.specs.Planes.{bids_of, IsLevelOf};
-ghost use Rattle.mix_facets.specs.Points.{other as other_of, prices_at};
+ghost use Rattle.mix_bids.specs.Levels.{other as other_of};
+ghost use Rattle.mix_facets.specs.Points.{prices_at};
 ghost use Rattle.mix_facets.specs.Grids.{point_at, size_of, IsGridOf};
 ghost use Rattle.mix_facets.specs.Cells.{first_place as first_place_of, holds, leads, weight_held, AreSums, AreBlockSums};
 
 use crate::grid::Grid;
-use crate::lead::lead;
 use crate::level::Level;
 use crate::numbers::Numbers;
-use crate::point::other;
-use mix_bids::{Bid, BidList};
+use mix_bids::{Bid, BidList, lead, other};
 use mix_num::Memory;
 use std::alloc::Global;
 

@@ -2,10 +2,10 @@
 ghost use Rattle.std.specs.Prelude.{◌≡◌, ◌<◌, ◌≤◌, ◌++◌, ◌∷◌, [], cond, length, slice_index_or, IfOk, OnOk};
 ghost use Rattle.mix_num.specs.Ranges.{Lies};
 ghost use Rattle.mix_bids.specs.Bids.{AreBids, IsBid};
-ghost use Rattle.mix_facets.specs.Planes.{bids_of, has_lead, level_at, places as places_where, IsLevelOf};
+ghost use Rattle.mix_bids.specs.Levels.{has_lead};
+ghost use Rattle.mix_facets.specs.Planes.{bids_of, level_at, places as places_where, IsLevelOf};
 
-use crate::lead::lead;
-use mix_bids::{Bid, BidList};
+use mix_bids::{Bid, BidList, has_difference};
 use mix_num::Memory;
 use std::alloc::Global;
 use std::marker::Model;
@@ -109,20 +109,6 @@ fn places_of(
         )?;
     }
     Ok(places)
-}
-
-/// Whether a bid offers both choices and values the first above the second by `difference`.
-fn has_difference(bid: &Bid, first: usize, second: usize, difference: i64) -> bool
-    requires first { first ≤ length bid.now.values.items }
-    requires second { second ≤ length bid.now.values.items }
-    requires bid { IsBid (length bid.now.values.items) bid.now }
-    requires difference { Lies 1000000 difference }
-    ensures { result ≡ has_lead first second difference bid.now }
-{
-    match lead(bid, first, second) {
-        Some(lead) => lead == difference,
-        None => false,
-    }
 }
 
 /// Adds a place at the end where it is wanted.

@@ -3,12 +3,12 @@ ghost use Rattle.std.specs.Prelude.{◌≡◌, ◌↔◌, ℤ, pos, ◌<◌, ◌
 ghost use Rattle.mix_num.specs.Vectors.{Vector};
 ghost use Rattle.mix_num.specs.Ranges.{Lies};
 ghost use Rattle.mix_bids.specs.Bids.{facet_weight, AreBids};
-ghost use Rattle.mix_facets.specs.Planes.{differences, AreLevelsOf};
+ghost use Rattle.mix_bids.specs.Levels.{differences};
+ghost use Rattle.mix_facets.specs.Planes.{AreLevelsOf};
 
-use crate::lead::negative_lead;
 use crate::level::Level;
 use crate::numbers::Numbers;
-use mix_bids::BidList;
+use mix_bids::{BidList, negative_lead};
 use mix_num::Memory;
 use std::alloc::Global;
 use std::marker::Model;

@@ -4,7 +4,6 @@
 mod candidates;
 mod cells;
 mod grid;
-mod lead;
 mod least;
 mod level;
 mod levels;

@@ -2,7 +2,7 @@
 ghost use Rattle.std.specs.Prelude.{◌≡◌, ◌+◌, ◌<◌, ◌≤◌, ◌≤ℤ◌, ℤ, pos, neg_ℤ};
 ghost use Rattle.mix_num.specs.Vectors.{with_null, Agree};
 ghost use Rattle.mix_num.specs.Ranges.{AreWithin, Lies};
-ghost use Rattle.mix_facets.specs.Points.{first_price as first_price_of, other as other_of, place as place_of, prices_at, IsPoint};
+ghost use Rattle.mix_facets.specs.Points.{first_price as first_price_of, place as place_of, prices_at, IsPoint};
 
 use crate::level::Level;
 use arrayvec::ArrayVec;
@@ -11,22 +11,6 @@ use mix_num::Prices;
 /// A coordinate for each choice other than a level's two, in rising order of the choices: by how much the choice's
 /// price lies above that of the level's first choice.
 pub type Point = ArrayVec<i64, 8>;
-
-/// The choice of a coordinate, where `first` and `second` are left out.
-pub(crate) fn other(first: usize, second: usize, coordinate: usize) -> usize
-    requires order { first < second }
-    requires few { coordinate ≤ 8 }
-    ensures value { result ≡ other_of first second coordinate }
-    ensures range { result ≤ coordinate + 2 }
-{
-    if coordinate < first {
-        coordinate
-    } else if coordinate + 1 < second {
-        coordinate + 1
-    } else {
-        coordinate + 2
-    }
-}
 
 /// The coordinate of a choice, where `first` and `second` are left out.
 pub(crate) fn place(first: usize, second: usize, choice: usize) -> usize

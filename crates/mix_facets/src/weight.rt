@@ -7,10 +7,9 @@ ghost use Rattle.mix_facets.specs.Planes.{IsLevelOf};
 ghost use Rattle.mix_facets.specs.Points.{coordinate, prices_at, IsPoint};
 ghost use Rattle.mix_facets.specs.Counted.{is_counted as is_counted_at, stays_below as stays_below_at};
 
-use crate::lead::lead;
 use crate::level::Level;
 use crate::point::{Point, place};
-use mix_bids::{Bid, BidList};
+use mix_bids::{Bid, BidList, lead};
 
 /// Whether a choice other than the level's two, if the bid offers it, leads the first one by less than its coordinate.
 fn stays_below(bid: &Bid, level: &Level, point: &Point, choice: usize) -> bool

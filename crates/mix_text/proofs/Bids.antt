@@ -11,8 +11,9 @@ use Rattle.mix_bids.specs.Bids.{Book}
 use Rattle.mix_bids.specs.declared.bid.Bid.{Bid}
 use Rattle.mix_text.specs.Bidders.{list_at, name_at, place_of, with_bid_at}
 use Rattle.mix_text.specs.Names.{different, is_among}
-use Rattle.mix_text.specs.Reading.{Limits, NamedBid, bidders_of, bids_under, limit_of, list_limit_of, names_of}
+use Rattle.mix_text.specs.Reading.{NamedBid, bidders_of, bids_under, limit_of, list_limit_of, list_under, names_of}
 use Rattle.mix_text.specs.declared.faults.What.TheVariants as what
+use Rattle.mix_text.specs.declared.formats.Limits.{Limits}
 use Rattle.mix_text.proofs.Entries.{list_any-absent, position-map}
 use Rattle.mix_text.proofs.Gathering.{among_different, bids_under_none, bids_under_snoc, bytes_eq_refl, different_snoc, different_unlike, map_at, map_other, same_bytes}
 
@@ -31,7 +32,7 @@ position_some p xs k e = elim (cases_Bool (list_any p xs)) [
 
 -- a bidder of these bids over n goods
 abbrev entry : ℕ → List NamedBid → List ℕ → List ℕ × Book
-entry n bids name = (name, record { goods = n; bids = bids_under name bids })
+entry n bids name = (name, list_under n name bids)
 
 -- the place of a name is its place among the different names
 place_among : (n : ℕ) (bids : List NamedBid) (name : List ℕ) → place_of name (bidders_of n bids) ≡ position (bytes_eq name) (different (names_of bids))
@@ -72,7 +73,7 @@ place_facts : (n : ℕ) (bids : List NamedBid) (name : List ℕ) (k : ℕ) → p
     → (k < length (different (names_of bids))) × (bytes_eq name (get_or (different (names_of bids)) k []) ≡ true) × ((j : ℕ) → j < k → bytes_eq name (get_or (different (names_of bids)) j []) ≡ false)
 place_facts n bids name k e = position-Some (bytes_eq name) (different (names_of bids)) k [] (sym (place_among n bids name) ∙ e)
 
-pub list_there : (n : ℕ) (bids : List NamedBid) (name : List ℕ) (k : ℕ) → place_of name (bidders_of n bids) ≡ Some k → list_at (bidders_of n bids) k ≡ record { goods = n; bids = bids_under name bids }
+pub list_there : (n : ℕ) (bids : List NamedBid) (name : List ℕ) (k : ℕ) → place_of name (bidders_of n bids) ≡ Some k → list_at (bidders_of n bids) k ≡ list_under n name bids
 list_there n bids name k e =
     let p = place_facts n bids name k e in
     ap (λ (z : List ℕ × Book). z.1) (get_or-map (entry n bids) (different (names_of bids)) k [] _ p.0)
@@ -99,12 +100,12 @@ gathers_more n bids b k e =
 -- ---- the limits that one more bid passes
 
 pub limit_more : (limits : Limits) (n : ℕ) (bids : List NamedBid) (b : NamedBid) (k : ℕ) → place_of b.name (bidders_of n bids) ≡ Some k
-    → limit_of limits bids b ≡ list_limit_of limits (list_at (bidders_of n bids) k).bids b.bid
+    → limit_of limits n bids b ≡ list_limit_of limits (list_at (bidders_of n bids) k) b.bid
 unfolding limit_of
 limit_more limits n bids b k e = rw (present n bids b.name k e, list_there n bids b.name k e) refl
 
 pub limit_new : (limits : Limits) (n : ℕ) (bids : List NamedBid) (b : NamedBid) → place_of b.name (bidders_of n bids) ≡ None
-    → limit_of limits bids b ≡ cond (nat_le limits.bidders (length (bidders_of n bids))) (Some what.Bidders) (list_limit_of limits [] b.bid)
+    → limit_of limits n bids b ≡ cond (nat_le limits.bidders (length (bidders_of n bids))) (Some what.Bidders) (list_limit_of limits (record { goods = n; bids = [] }) b.bid)
 unfolding limit_of
 limit_new limits n bids b e =
     let gone = sym (among_different b.name (names_of bids)) ∙ absent n bids b.name e in

@@ -11,6 +11,7 @@ mod Turns
 pub mod Gathering
 pub mod Bids
 mod Keys
+pub mod FormatLimits
 pub mod Steps
 pub mod Sound
 pub mod SoundAuctions

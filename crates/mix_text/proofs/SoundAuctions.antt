@@ -1,5 +1,5 @@
 -- An auction that is read keeps what every auction keeps, and the limits of its format.
-use Rattle.std.proofs.Common.{◌≡◌, ◌<◌, ◌≤◌, ◌+◌, ◌||◌, ◌&&◌, ℕ, ℤ, pos, List, [], ◌∷◌, ◌++◌, length, map, drop, filter, sym, ◌∙◌, ap, arith, refl, subst, Option, Some, None, Ok, Err, Result, Bool, true, false, not, cond, inl, inr, All, true≢false, nat_lt}
+use Rattle.std.proofs.Common.{◌≡◌, ◌<◌, ◌≤◌, ◌+◌, ◌||◌, ◌&&◌, ◌==◌, ℕ, suc, ℤ, pos, List, [], ◌∷◌, ◌++◌, length, map, drop, filter, sym, ◌∙◌, ap, arith, refl, subst, Option, Some, None, Ok, Err, Result, Bool, true, false, not, cond, inl, inr, All, true≢false, nat_lt}
 use Rattle.std.specs.Prelude.{codes, nat_le, count_by}
 use Rattle.std.specs.List.{AllPass}
 use Rattle.std.specs.Str.{bytes_eq}
@@ -9,19 +9,25 @@ use Rattle.std.proofs.lemmas.List.Sums.{sum_by_push}
 use Rattle.std.proofs.lemmas.List.{append-nil, length-append, length-drop, length-map, map-append}
 use Rattle.std.proofs.lemmas.List.Elements.{All-cons, All-filter, All-head, All-map, All-nil, All-push, All-tail, All-weaker}
 use Rattle.mix_bids.specs.Bids.{AreBids, Book, IsBid}
+use Rattle.mix_bids.specs.Cells.{cells}
+use Rattle.mix_bids.proofs.CellPushes.{cells_none}
 use Rattle.mix_bids.specs.declared.bid.Bid.{Bid}
 use Rattle.mix_text.specs.Rows.{RestText, RowText}
 use Rattle.mix_text.specs.Spelling.{is_name, spelled_name}
 use Rattle.mix_text.specs.Names.{AreNames, different, is_among}
 use Rattle.mix_num.specs.Sellers.{AreAmounts}
 use Rattle.mix_text.specs.Auctions.{AuctionText, IsAuction, IsBook}
+use Rattle.mix_text.specs.Bidders.{with_bid}
+use Rattle.mix_text.specs.Formats.{AreLimits, IsFormat, is_past, limits_of}
 use Rattle.mix_text.specs.Limits.{BidsMeet, MeetsLimits}
-use Rattle.mix_text.specs.Reading.{◌>>=◌, Limits, NamedBid, begins, bid_row_of, bidders_of, bids_from, bids_under, end_of, goods_at, goods_form_of, goods_row_of, header_of, holds, is_negative, limit_of, mix_one, ReadsBids, names_after, names_of, numbers_of, past_goods, placed, read_at, reading_of, row_at, unless_past}
+use Rattle.mix_text.specs.Reading.{◌>>=◌, NamedBid, begins, bid_row_of, bidders_of, bids_from, bids_under, end_of, field_at, format_of, goods_at, goods_form_of, goods_row_of, header_of, holds, is_negative, limit_of, list_limit_of, list_under, ReadsBids, names_after, names_of, numbers_of, past_goods, placed, read_at, reading_of, row_at, unless_past}
 use Rattle.mix_text.specs.declared.faults.Code.{Code}
 use Rattle.mix_text.specs.declared.faults.Code.TheVariants as code
 use Rattle.mix_text.specs.declared.faults.TextError.{TextError}
 use Rattle.mix_text.specs.declared.faults.What.{What}
 use Rattle.mix_text.specs.declared.faults.What.TheVariants as what
+use Rattle.mix_text.specs.declared.formats.Limits.{Limits}
+use Rattle.mix_text.proofs.FormatLimits.{none_past}
 use Rattle.mix_text.proofs.Gathering.{Unlike, bids_under_snoc, bids_under_some, bytes_eq_refl, different_same, different_snoc, different_unlike, among_different, same_bytes, unlike}
 use Rattle.mix_text.proofs.Sound.{IsNamedBid, bid_row_ok, holds_ok, numbers_ok, then_ok}
 use Rattle.mix_text.proofs.Spellings.{name_read}
@@ -107,61 +113,73 @@ goods_ok limits row names e =
 pub record AreFew (limits : Limits) (n : ℕ) (bids : List NamedBid) : Type 0 where
   pub each : All (IsNamedBid n) bids
   pub names : length (different (names_of bids)) ≤ limits.bidders
-  pub under : (m : List ℕ) → BidsMeet limits (bids_under m bids)
+  pub under : (m : List ℕ) → BidsMeet limits (list_under n m bids)
 
 not_at : (a b : ℕ) → nat_le a b ≡ false → b < a
 not_at a b h = grind (arith, nat_tests)
 
--- a bid after those of its bidder, and under the limits of both kinds
-record HasRoom (limits : Limits) (list : List Bid) (bid : Bid) : Type 0 where
-  bids : length list < limits.bids
-  negatives : is_negative bid ≡ true → count_by is_negative list < limits.negatives
+-- a list whose one bid more passes no limit: it has room for a bid, and for a negative one, and stays within the cells
+record HasRoom (limits : Limits) (list : Book) (bid : Bid) : Type 0 where
+  bids : length list.bids < limits.bids
+  negatives : is_negative bid ≡ true → is_past limits.negatives (suc (count_by is_negative list.bids)) ≡ false
+  cells : is_past limits.cells (cells (with_bid list bid)) ≡ false
 
 -- the tests of the limits, all of which failed
-tests_failed : (there many long negative full : Bool) (w v u : What) → cond (not there && many) (Some w) (cond long (Some v) (cond (negative && full) (Some u) None)) ≡ None
-    → (there ≡ false → many ≡ false) × (long ≡ false) × (negative ≡ true → full ≡ false)
-tests_failed false true long negative full w v u e = cc e
-tests_failed false false true negative full w v u e = cc e
-tests_failed false false false true true w v u e = cc e
-tests_failed false false false true false w v u e = (λ _. refl, refl, λ _. refl)
-tests_failed false false false false full w v u e = (λ _. refl, refl, λ t. absurd (true≢false (sym t)))
-tests_failed true many true negative full w v u e = cc e
-tests_failed true many false true true w v u e = cc e
-tests_failed true many false true false w v u e = (λ f. absurd (true≢false f), refl, λ _. refl)
-tests_failed true many false false full w v u e = (λ f. absurd (true≢false f), refl, λ t. absurd (true≢false (sym t)))
+tests_failed : (long negative full many : Bool) (v u w : What) → cond long (Some v) (cond (negative && full) (Some u) (cond many (Some w) None)) ≡ None
+    → (long ≡ false) × (negative ≡ true → full ≡ false) × (many ≡ false)
+tests_failed true negative full many v u w e = cc e
+tests_failed false true true many v u w e = cc e
+tests_failed false true false true v u w e = cc e
+tests_failed false true false false v u w e = (refl, λ _. refl, refl)
+tests_failed false false full true v u w e = cc e
+tests_failed false false full false v u w e = (refl, λ t. absurd (true≢false (sym t)), refl)
+
+has_room : (limits : Limits) (list : Book) (bid : Bid) → list_limit_of limits list bid ≡ None → HasRoom limits list bid
+unfolding list_limit_of
+has_room limits list bid h =
+    let t = tests_failed (nat_le limits.bids (length list.bids)) (is_negative bid) (is_past limits.negatives (suc (count_by is_negative list.bids)))
+    (is_past limits.cells (cells (with_bid list bid))) what.Bids what.Negatives what.Cells h in
+    record { bids = not_at limits.bids (length list.bids) t.0; negatives = t.1; cells = t.2 }
+
+test_failed : (there many : Bool) (w : What) (rest : Option What) → cond (not there && many) (Some w) rest ≡ None → (there ≡ false → many ≡ false) × (rest ≡ None)
+test_failed false true w rest e = cc e
+test_failed false false w rest e = (λ _. refl, e)
+test_failed true many w rest e = (λ f. absurd (true≢false f), e)
 
 -- what it means that no limit is passed
-no_limit : (limits : Limits) (before : List NamedBid) (b : NamedBid) → limit_of limits before b ≡ None
-    → (is_among b.name (names_of before) ≡ false → length (different (names_of before)) < limits.bidders) × HasRoom limits (bids_under b.name before) b.bid
+no_limit : (limits : Limits) (n : ℕ) (before : List NamedBid) (b : NamedBid) → limit_of limits n before b ≡ None
+    → (is_among b.name (names_of before) ≡ false → length (different (names_of before)) < limits.bidders) × HasRoom limits (list_under n b.name before) b.bid
 unfolding limit_of
-no_limit limits before b h =
-    let list = bids_under b.name before in
-    let t = tests_failed (is_among b.name (names_of before)) (nat_le limits.bidders (length (different (names_of before)))) (nat_le limits.bids (length list))
-    (is_negative b.bid) (nat_le limits.negatives (count_by is_negative list)) what.Bidders what.Bids what.Negatives h in (
-      λ f. not_at limits.bidders (length (different (names_of before))) (t.0 f),
-      record { bids = not_at limits.bids (length list) t.1; negatives = λ n. not_at limits.negatives (count_by is_negative list) (t.2 n) },
-    )
+no_limit limits n before b h =
+    let t = test_failed (is_among b.name (names_of before)) (nat_le limits.bidders (length (different (names_of before)))) what.Bidders (list_limit_of limits (list_under n b.name before) b.bid) h in
+    (λ f. not_at limits.bidders (length (different (names_of before))) (t.0 f), has_room limits (list_under n b.name before) b.bid t.1)
 
 -- a list with room, one more bid at its end
-bid_more : (limits : Limits) (list : List Bid) (bid : Bid) → HasRoom limits list bid → BidsMeet limits list → BidsMeet limits (list ++ (bid ∷ []))
+bid_more : (limits : Limits) (list : Book) (bid : Bid) → HasRoom limits list bid → BidsMeet limits list → BidsMeet limits (with_bid list bid)
 bid_more limits list bid room m =
     let room_left = room.bids in
-    let few = m.negatives in
-    let count = sum_by_push (λ b. cond (is_negative b) 1 0) list bid in
+    let count = sum_by_push (λ b. cond (is_negative b) 1 0) list.bids bid in
     record {
-      bids = rw (length-append list (bid ∷ [])) (omega arith);
+      bids = rw (length-append list.bids (bid ∷ [])) (omega arith);
       negatives = elim (cases_Bool (is_negative bid)) [
-        | inl t ↦ (let below = room.negatives t in rw (count, t) (omega arith))
-        | inr f ↦ rw (count, f) (omega arith)
+        | inl t ↦ (let below = room.negatives t in rw (count, t) (subst (λ (k : ℕ). is_past limits.negatives k ≡ false) (next (count_by is_negative list.bids)) below))
+        | inr f ↦ (let few = m.negatives in rw (count, f) (subst (λ (k : ℕ). is_past limits.negatives k ≡ false) (same (count_by is_negative list.bids)) few))
       ];
+      cells = room.cells;
     }
+  where
+    next : (k : ℕ) → suc k ≡ k + 1
+    next k = omega arith
+    same : (k : ℕ) → k ≡ k + 0
+    same k = omega arith
 
 -- the bids of a name, where one more bid has come
-under_more : (limits : Limits) (before : List NamedBid) (b : NamedBid) (m : List ℕ) → HasRoom limits (bids_under b.name before) b.bid → BidsMeet limits (bids_under m before) → BidsMeet limits (bids_under m (before ++ (b ∷ [])))
-under_more limits before b m room h = rw (bids_under_snoc m before b) (elim (cases_Bool (bytes_eq m b.name)) [
+under_more : (limits : Limits) (n : ℕ) (before : List NamedBid) (b : NamedBid) (m : List ℕ) → HasRoom limits (list_under n b.name before) b.bid → BidsMeet limits (list_under n m before)
+    → BidsMeet limits (list_under n m (before ++ (b ∷ [])))
+under_more limits n before b m room h = rw (bids_under_snoc m before b) (elim (cases_Bool (bytes_eq m b.name)) [
   | inl t ↦ (
       let same = same_bytes m b.name t in
-      rw t (bid_more limits (bids_under m before) b.bid (subst (λ (x : List ℕ). HasRoom limits (bids_under x before) b.bid) (sym same) room) h))
+      rw t (bid_more limits (list_under n m before) b.bid (subst (λ (x : List ℕ). HasRoom limits (list_under n x before) b.bid) (sym same) room) h))
   | inr f ↦ rw (f, append-nil (bids_under m before)) h
 ])
 
@@ -172,13 +190,13 @@ names_more limits before b new h = rw (map-append (λ (a : NamedBid). a.name) be
   | inr f ↦ (let l = new f in rw (f, length-append (different (names_of before)) (b.name ∷ [])) (omega arith))
 ])
 
-few_more : (limits : Limits) (n : ℕ) (before : List NamedBid) (b : NamedBid) → IsNamedBid n b → limit_of limits before b ≡ None → AreFew limits n before → AreFew limits n (before ++ (b ∷ []))
+few_more : (limits : Limits) (n : ℕ) (before : List NamedBid) (b : NamedBid) → IsNamedBid n b → limit_of limits n before b ≡ None → AreFew limits n before → AreFew limits n (before ++ (b ∷ []))
 few_more limits n before b is none a =
-    let l = no_limit limits before b none in
+    let l = no_limit limits n before b none in
     record {
       each = All-push (IsNamedBid n) before b a.each is;
       names = names_more limits before b l.0 a.names;
-      under = λ m. under_more limits before b m l.1 (a.under m);
+      under = λ m. under_more limits n before b m l.1 (a.under m);
     }
 
 bids_ok : (limits : Limits) (n next : ℕ) (before : List NamedBid) (rows : List RowText) (read : List NamedBid × List RowText) → bids_from limits n next before rows ≡ Ok read → AreFew limits n before → AreFew limits n read.0
@@ -192,15 +210,19 @@ bids_ok limits n next before (row ∷ rest) read e a = elim (cases_Bool (begins 
       subst (λ (z : List NamedBid × List RowText). AreFew limits n z.0) same a)
   | inr f ↦ (
       let q = rw f at e in
-      let b = then_ok (placed row.number (bid_row_of n row.fields)) (λ b. unless_past row.number (limit_of limits before b) >>= λ _. bids_from limits n next (before ++ (b ∷ [])) rest) read q in
-      let l = then_ok (unless_past row.number (limit_of limits before b.0)) (λ _. bids_from limits n next (before ++ (b.0 ∷ [])) rest) read b.2 in
-      let none = within_limit row.number (limit_of limits before b.0) l.0 l.1 in
+      let b = then_ok (placed row.number (bid_row_of n row.fields)) (λ b. unless_past row.number (limit_of limits n before b) >>= λ _. bids_from limits n next (before ++ (b ∷ [])) rest) read q in
+      let l = then_ok (unless_past row.number (limit_of limits n before b.0)) (λ _. bids_from limits n next (before ++ (b.0 ∷ [])) rest) read b.2 in
+      let none = within_limit row.number (limit_of limits n before b.0) l.0 l.1 in
       let is = bid_row_ok n row.fields b.0 (placed_ok row.number (bid_row_of n row.fields) b.0 b.1) in
       bids_ok limits n next (before ++ (b.0 ∷ [])) rest read l.2 (few_more limits n before b.0 is none a))
 ]
 
+-- no bids pass no limit
+pub no_bids : (limits : Limits) (n : ℕ) → BidsMeet limits (record { goods = n; bids = [] })
+no_bids limits n = record { bids = omega arith; negatives = none_past limits.negatives; cells = rw (cells_none n) (none_past limits.cells) }
+
 none_yet : (limits : Limits) (n : ℕ) → AreFew limits n []
-none_yet limits n = record { each = All-nil (IsNamedBid n); names = omega arith; under = λ m. record { bids = omega arith; negatives = omega arith } }
+none_yet limits n = record { each = All-nil (IsNamedBid n); names = omega arith; under = λ m. no_bids limits n }
 
 -- ---- the bidders of these bids
 
@@ -222,7 +244,7 @@ each_among P (y ∷ ys) all sub h =
 names_same : (n : ℕ) (bids : List NamedBid) → map (λ (bidder : List ℕ × Book). bidder.0) (bidders_of n bids) ≡ different (names_of bids)
 names_same n bids = go (different (names_of bids))
   where
-    go : (names : List (List ℕ)) → map (λ (bidder : List ℕ × Book). bidder.0) (map (λ name. (name, record { goods = n; bids = bids_under name bids })) names) ≡ names
+    go : (names : List (List ℕ)) → map (λ (bidder : List ℕ × Book). bidder.0) (map (λ name. (name, list_under n name bids)) names) ≡ names
     go [] = refl
     go (y ∷ ys) = ap (λ rest. y ∷ rest) (go ys)
 
@@ -238,23 +260,25 @@ amounts_at rows k word n xs e =
 
 -- the bidders of these bids: as many as their different names
 bidders_length : (n : ℕ) (bids : List NamedBid) → length (bidders_of n bids) ≡ length (different (names_of bids))
-bidders_length n bids = length-map (different (names_of bids)) (λ name. (name, record { goods = n; bids = bids_under name bids }))
+bidders_length n bids = length-map (different (names_of bids)) (λ name. (name, list_under n name bids))
 
 -- what holds of the bids of each name that is there holds of each bidder's list
-each_list : (n : ℕ) (bids : List NamedBid) (P : Book → Type 0) → ((m : List ℕ) → is_among m (names_of bids) ≡ true → P (record { goods = n; bids = bids_under m bids })) → All (λ (bidder : List ℕ × Book). P bidder.1) (bidders_of n bids)
+each_list : (n : ℕ) (bids : List NamedBid) (P : Book → Type 0) → ((m : List ℕ) → is_among m (names_of bids) ≡ true → P (list_under n m bids)) → All (λ (bidder : List ℕ × Book). P bidder.1) (bidders_of n bids)
 each_list n bids P h =
-    All-map (λ (bidder : List ℕ × Book). P bidder.1) (λ (name : List ℕ). (name, record { goods = n; bids = bids_under name bids })) (different (names_of bids))
-    (each_among (λ name. P (record { goods = n; bids = bids_under name bids })) (different (names_of bids)) (names_of bids) (λ m a. sym (among_different m (names_of bids)) ∙ a) h)
+    All-map (λ (bidder : List ℕ × Book). P bidder.1) (λ (name : List ℕ). (name, list_under n name bids)) (different (names_of bids))
+    (each_among (λ name. P (list_under n name bids)) (different (names_of bids)) (names_of bids) (λ m a. sym (among_different m (names_of bids)) ∙ a) h)
 
 -- the bidders of few bids make an auction with goods and amounts
-pub made : (goods : List (List ℕ)) (supply reserve : List ℤ) (bids : List NamedBid) → AreGoods mix_one goods → AreAmounts (length goods) supply → AreAmounts (length goods) reserve → AreFew mix_one (length goods) bids
-    → IsAuction (record { goods = goods; supply = supply; reserve = reserve; bidders = bidders_of (length goods) bids })
-made goods supply reserve bids g s r few =
+pub made : (format : ℕ) (limits : Limits) (goods : List (List ℕ)) (supply reserve : List ℤ) (bids : List NamedBid) → IsFormat format → AreLimits limits
+    → AreGoods limits goods → AreAmounts (length goods) supply → AreAmounts (length goods) reserve → AreFew limits (length goods) bids
+    → IsAuction (record { format = format; goods = goods; supply = supply; reserve = reserve; bidders = bidders_of (length goods) bids })
+made format limits goods supply reserve bids is are g s r few =
     let n = length goods in
     let names = names_same n bids in
     record {
+      format = is;
       some_goods = g.some;
-      few_goods = let f : length goods ≤ 5 = g.few in omega arith;
+      few_goods = let f = g.few in let most = are.goods in omega arith;
       goods = g.names;
       supply = s;
       reserve = r;
@@ -262,45 +286,75 @@ made goods supply reserve bids g s r few =
         form = passes_different (names_of bids) (All-map (λ x. is_name x ≡ true) (λ (b : NamedBid). b.name) bids (All-weaker (IsNamedBid n) (λ b. is_name b.name ≡ true) (λ b i. i.name) bids few.each));
         unlike = different_same (different (names_of bids)) (different_unlike (names_of bids));
       });
-      few_bidders = let h : length (different (names_of bids)) ≤ 64 = few.names in let l = bidders_length n bids in omega arith;
-      books = each_list n bids (IsBook n) (λ m a. record { goods = refl; some = bids_under_some m bids a; few = (few.under m).bids; bids = bids_of_name n m bids few.each });
+      few_bidders = let h = few.names in let l = bidders_length n bids in let most = are.bidders in omega arith;
+      books = each_list n bids (IsBook n) (λ m a. record {
+        goods = refl;
+        some = bids_under_some m bids a;
+        few = let h = (few.under m).bids in let most = are.bids in omega arith;
+        bids = bids_of_name n m bids few.each;
+      });
     }
 
+-- the format that is read is one
+format_ok : (field : List ℕ) (format : ℕ) → format_of field ≡ Ok format → IsFormat format
+format_ok field format e = elim (cases_Bool (bytes_eq field (codes "1"))) [
+  | inl t ↦ (let q = rw t at e in let one : 1 ≡ format = cc q in (omega arith, omega arith))
+  | inr f ↦ (let q = rw f at e in elim (cases_Bool (bytes_eq field (codes "2"))) [
+      | inl u ↦ (let p = rw u at q in let two : 2 ≡ format = cc p in (omega arith, omega arith))
+      | inr g ↦ absurd (let p = rw g at q in cc p)
+    ])
+]
+
+header_ok : (fields : List (List ℕ)) (format : ℕ) → header_of fields ≡ Ok format → IsFormat format
+unfolding header_of
+header_ok fields format e =
+    let r = then_ok (holds (begins fields (codes "mix") && (length fields == 2)) code.Header) (λ _. format_of (field_at fields 1)) format e in
+    format_ok (field_at fields 1) format r.2
+
+first_ok : (rows : List RowText) (format : ℕ) → read_at rows 0 header_of ≡ Ok format → IsFormat format
+first_ok rows format e =
+    let r = then_ok (row_at rows 0) (λ row. placed row.number (header_of row.fields)) format e in
+    header_ok r.0.fields format (placed_ok r.0.number (header_of r.0.fields) format r.2)
+
 -- an auction that is read is one
-pub auction_ok : (rows : List RowText) (n : ℕ) (goods : List (List ℕ)) (supply reserve : List ℤ) (bidders : List (List ℕ × Book)) (place : ℕ) → n ≡ length goods
-    → (row_at rows 1 >>= goods_at mix_one) ≡ Ok goods
+pub auction_ok : (rows : List RowText) (format : ℕ) (limits : Limits) (n : ℕ) (goods : List (List ℕ)) (supply reserve : List ℤ) (bidders : List (List ℕ × Book)) (place : ℕ)
+    → AreLimits limits
+    → n ≡ length goods
+    → read_at rows 0 header_of ≡ Ok format
+    → (row_at rows 1 >>= goods_at limits) ≡ Ok goods
     → read_at rows 2 (numbers_of (codes "supply") n (pos 0) (pos 1000000)) ≡ Ok supply
     → read_at rows 3 (numbers_of (codes "reserve") n (pos 0) (pos 1000000)) ≡ Ok reserve
-    → ReadsBids n rows bidders place
-    → IsAuction (record { goods = goods; supply = supply; reserve = reserve; bidders = bidders })
-auction_ok rows n goods supply reserve bidders place count b c d e =
-    let r = then_ok (row_at rows 1) (goods_at mix_one) goods b in
-    let few = bids_ok mix_one n (length rows + 1) [] (drop 4 rows) (e.bids, drop place rows) e.read (none_yet mix_one n) in
-    let P : ℕ → Type 0 = λ m. IsAuction (record { goods = goods; supply = supply; reserve = reserve; bidders = bidders_of m e.bids }) in
-    let at_length = made goods supply reserve e.bids (goods_ok mix_one r.0 goods r.2) (subst (λ (m : ℕ). AreAmounts m supply) count (amounts_at rows 2 (codes "supply") n supply c))
-    (subst (λ (m : ℕ). AreAmounts m reserve) count (amounts_at rows 3 (codes "reserve") n reserve d)) (subst (λ (m : ℕ). AreFew mix_one m e.bids) count few) in
-    subst (λ (z : List (List ℕ × Book)). IsAuction (record { goods = goods; supply = supply; reserve = reserve; bidders = z })) (sym e.gathered) (subst P (sym count) at_length)
+    → ReadsBids limits n rows bidders place
+    → IsAuction (record { format = format; goods = goods; supply = supply; reserve = reserve; bidders = bidders })
+auction_ok rows format limits n goods supply reserve bidders place are count a b c d e =
+    let r = then_ok (row_at rows 1) (goods_at limits) goods b in
+    let few = bids_ok limits n (length rows + 1) [] (drop 4 rows) (e.bids, drop place rows) e.read (none_yet limits n) in
+    let P : ℕ → Type 0 = λ m. IsAuction (record { format = format; goods = goods; supply = supply; reserve = reserve; bidders = bidders_of m e.bids }) in
+    let at_length = made format limits goods supply reserve e.bids (first_ok rows format a) are (goods_ok limits r.0 goods r.2) (subst (λ (m : ℕ). AreAmounts m supply) count (amounts_at rows 2 (codes "supply") n supply c))
+    (subst (λ (m : ℕ). AreAmounts m reserve) count (amounts_at rows 3 (codes "reserve") n reserve d)) (subst (λ (m : ℕ). AreFew limits m e.bids) count few) in
+    subst (λ (z : List (List ℕ × Book)). IsAuction (record { format = format; goods = goods; supply = supply; reserve = reserve; bidders = z })) (sym e.gathered) (subst P (sym count) at_length)
 
 -- ---- limits
 
 -- few bids: their bidders keep to the limits
-bids_meet : (limits : Limits) (goods : List (List ℕ)) (supply reserve : List ℤ) (n : ℕ) (bids : List NamedBid) → AreGoods limits goods → AreFew limits n bids
-    → MeetsLimits limits (record { goods = goods; supply = supply; reserve = reserve; bidders = bidders_of n bids })
-bids_meet limits goods supply reserve n bids g few = record {
+bids_meet : (format : ℕ) (goods : List (List ℕ)) (supply reserve : List ℤ) (n : ℕ) (bids : List NamedBid) → AreGoods (limits_of format) goods → AreFew (limits_of format) n bids
+    → MeetsLimits (record { format = format; goods = goods; supply = supply; reserve = reserve; bidders = bidders_of n bids })
+bids_meet format goods supply reserve n bids g few = record {
   goods = g.few;
   bidders = let h = few.names in let l = bidders_length n bids in omega arith;
-  lists = each_list n bids (λ book. BidsMeet limits book.bids) (λ m a. few.under m);
+  lists = each_list n bids (BidsMeet (limits_of format)) (λ m a. few.under m);
 }
 
-meet_when_read : (limits : Limits) (a : AuctionText) (rest : RestText) (read : AuctionText × RestText) → ◌≡◌ {A = Result (AuctionText × RestText) TextError} (Ok (a, rest)) (Ok read) → MeetsLimits limits a → MeetsLimits limits read.0
-meet_when_read limits a rest read e h = let same : a ≡ read.0 = cc e in subst (MeetsLimits limits) same h
+meet_when_read : (a : AuctionText) (rest : RestText) (read : AuctionText × RestText) → ◌≡◌ {A = Result (AuctionText × RestText) TextError} (Ok (a, rest)) (Ok read) → MeetsLimits a → MeetsLimits read.0
+meet_when_read a rest read e h = let same : a ≡ read.0 = cc e in subst MeetsLimits same h
 
--- the auction that is read keeps to the limits under which it is read
-pub meets_limits : (limits : Limits) (rows : List RowText) (read : AuctionText × RestText) → reading_of limits rows ≡ Ok read → MeetsLimits limits read.0
+-- the auction that is read keeps to the limits of its format
+pub meets_limits : (rows : List RowText) (read : AuctionText × RestText) → reading_of rows ≡ Ok read → MeetsLimits read.0
 unfolding reading_of
-meets_limits limits rows read e =
+meets_limits rows read e =
     let next = length rows + 1 in
     let header = then_ok (read_at rows 0 header_of) _ read e in
+    let limits = limits_of header.0 in
     let goods = then_ok (row_at rows 1 >>= goods_at limits) _ read header.2 in
     let n = length goods.0 in
     let supply = then_ok (read_at rows 2 (numbers_of (codes "supply") n (pos 0) (pos 1000000))) _ read goods.2 in
@@ -308,4 +362,4 @@ meets_limits limits rows read e =
     let bids = then_ok (bids_from limits n next [] (drop 4 rows)) _ read reserve.2 in
     let row = then_ok (row_at rows 1) (goods_at limits) goods.0 goods.1 in
     let few = bids_ok limits n next [] (drop 4 rows) bids.0 bids.1 (none_yet limits n) in
-    meet_when_read limits _ _ read bids.2 (bids_meet limits goods.0 supply.0 reserve.0 n bids.0.0 (goods_ok limits row.0 goods.0 row.2) few)
+    meet_when_read _ _ read bids.2 (bids_meet header.0 goods.0 supply.0 reserve.0 n bids.0.0 (goods_ok limits row.0 goods.0 row.2) few)

@@ -4,11 +4,12 @@ use Rattle.std.specs.Prelude.{codes}
 use Rattle.std.proofs.Math.Seq.{drop-cons}
 use Rattle.std.proofs.lemmas.List.{drop_all}
 use Rattle.mix_text.specs.Rows.{RowText}
-use Rattle.mix_text.specs.Reading.{Limits, NamedBid, begins, bid_row_of, bids_from, end_of, limit_of}
+use Rattle.mix_text.specs.Reading.{NamedBid, begins, bid_row_of, bids_from, end_of, limit_of}
 use Rattle.mix_text.specs.declared.faults.Code.{Code}
 use Rattle.mix_text.specs.declared.faults.Code.TheVariants as code
 use Rattle.mix_text.specs.declared.faults.What.{What}
 use Rattle.mix_text.specs.declared.faults.TextError.TheVariants as error
+use Rattle.mix_text.specs.declared.formats.Limits.{Limits}
 
 pub rows_from : (rows : List RowText) (k : ℕ) (row : RowText) → k < length rows → row ≡ get_or rows k row → drop k rows ≡ row ∷ drop (k + 1) rows
 rows_from rows k row h e = rw add-one (drop-cons rows k row h ∙ ap (λ (r : RowText). r ∷ drop (suc k) rows) (sym e))
@@ -29,13 +30,13 @@ unfolding bids_from
 bid_wrong limits n next before row rest c h e = rw (← h, e) refl
 
 pub bid_past : (limits : Limits) (n next : ℕ) (before : List NamedBid) (row : RowText) (rest : List RowText) (b : NamedBid) (w : What)
-    → false ≡ begins row.fields (codes "end") → bid_row_of n row.fields ≡ Ok b → Some w ≡ limit_of limits before b
+    → false ≡ begins row.fields (codes "end") → bid_row_of n row.fields ≡ Ok b → Some w ≡ limit_of limits n before b
     → bids_from limits n next before (row ∷ rest) ≡ Err (error.Limit (record { at = row.number; what = w }))
 unfolding bids_from
 bid_past limits n next before row rest b w h e l = rw (← h, e, ← l) refl
 
 pub bid_more : (limits : Limits) (n next : ℕ) (before : List NamedBid) (row : RowText) (rest : List RowText) (b : NamedBid)
-    → false ≡ begins row.fields (codes "end") → bid_row_of n row.fields ≡ Ok b → None ≡ limit_of limits before b
+    → false ≡ begins row.fields (codes "end") → bid_row_of n row.fields ≡ Ok b → None ≡ limit_of limits n before b
     → bids_from limits n next before (row ∷ rest) ≡ bids_from limits n next (before ++ (b ∷ [])) rest
 unfolding bids_from
 bid_more limits n next before row rest b h e l = rw (← h, e, ← l) refl

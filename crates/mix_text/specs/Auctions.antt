@@ -2,10 +2,12 @@
 use Rattle.std.specs.Prelude.{◌≡◌, ◌≤◌, ℕ, ℤ, List, length, map, All}
 use Rattle.mix_num.specs.Sellers.{AreAmounts}
 use Rattle.mix_bids.specs.Bids.{AreBids, Book}
+use Rattle.mix_text.specs.Formats.{IsFormat}
 use Rattle.mix_text.specs.Names.{AreNames}
 
--- the names of the goods, a supply and a reserve for each, and the bidders by name in order of first appearance
+-- the number of the format, the names of the goods, a supply and a reserve for each, and the bidders by name in order of first appearance
 pub record AuctionText : Type 0 where
+  pub format : ℕ
   pub goods : List (List ℕ)
   pub supply : List ℤ
   pub reserve : List ℤ
@@ -18,8 +20,9 @@ pub record IsBook (n : ℕ) (book : Book) : Type 0 where
   pub few : length book.bids ≤ 400
   pub bids : AreBids n book.bids
 
--- an auction: everything in it speaks of the same 1 to 8 goods, and of at most 256 bidders
+-- an auction of one of the formats: everything in it speaks of the same 1 to 8 goods, and of at most 256 bidders
 pub record IsAuction (a : AuctionText) : Type 0 where
+  pub format : IsFormat a.format
   pub some_goods : 1 ≤ length a.goods
   pub few_goods : length a.goods ≤ 8
   pub goods : AreNames a.goods

@@ -3,6 +3,7 @@ pub mod Spelling
 pub mod Pages
 pub mod Bidders
 pub mod Names
+pub mod Formats
 pub mod Auctions
 pub mod AuctionTexts
 pub mod Reading

@@ -1,12 +1,15 @@
 -- The text of an auction, read row by row: the auction and the rows after it, or the first row with a fault or past a limit.
-use Rattle.std.specs.Prelude.{◌≡◌, ◌==◌, ◌≤◌, ◌+◌, ◌⊎◌, ◌&&◌, Bool, true, false, ℕ, ℤ, pos, neg_ℤ, List, [], ◌∷◌, ◌++◌, length, drop, map, filter, count_by, not, slice_index_or, nat_lt, nat_le, int_lt, if◌then◌else◌, Option, Some, None, Result, Ok, Err, codes}
+use Rattle.std.specs.Prelude.{◌≡◌, ◌==◌, ◌≤◌, ◌+◌, ◌⊎◌, ◌&&◌, Bool, true, false, ℕ, suc, ℤ, pos, neg_ℤ, List, [], ◌∷◌, ◌++◌, length, drop, map, filter, count_by, not, slice_index_or, nat_lt, nat_le, int_lt, if◌then◌else◌, Option, Some, None, Result, Ok, Err, codes}
 use Rattle.std.specs.Ordering.{int_eq}
 use Rattle.std.specs.Str.{bytes_eq}
 use Rattle.mix_bids.specs.Bids.{Book}
+use Rattle.mix_bids.specs.Cells.{cells}
 use Rattle.mix_bids.specs.Offers.{offers_some}
 use Rattle.mix_bids.specs.declared.bid.Bid.{Bid}
 use Rattle.mix_text.specs.Rows.{RestText, RowText}
 use Rattle.mix_text.specs.Spelling.{spelled_name, spelled_number, between}
+use Rattle.mix_text.specs.Bidders.{with_bid}
+use Rattle.mix_text.specs.Formats.{is_past, limits_of}
 use Rattle.mix_text.specs.Names.{different, is_among}
 use Rattle.mix_text.specs.Auctions.{AuctionText}
 use Rattle.mix_text.specs.declared.faults.Code.{Code}
@@ -16,6 +19,7 @@ use Rattle.mix_text.specs.declared.faults.What.{What}
 use Rattle.mix_text.specs.declared.faults.What.TheVariants as what
 use Rattle.mix_text.specs.declared.faults.TextError.{TextError}
 use Rattle.mix_text.specs.declared.faults.TextError.TheVariants as error
+use Rattle.mix_text.specs.declared.formats.Limits.{Limits}
 
 -- what is read next, unless something was wrong before
 infixl 10 ◌>>=◌
@@ -47,9 +51,13 @@ each_of read (field ∷ rest) = read field >>= λ x. each_of read rest >>= λ xs
 abbrev pub number_in : ℤ → ℤ → List ℕ → Result ℤ Code
 number_in low high field = between low high (spelled_number field)
 
--- the first row: `mix` and `1`, and nothing else
-unfoldable pub header_of : List (List ℕ) → Result (Unit {0}) Code
-header_of fields = holds (begins fields (codes "mix") && bytes_eq (field_at fields 1) (codes "1") && (length fields == 2)) code.Header
+-- the format that a field names
+abbrev pub format_of : List ℕ → Result ℕ Code
+format_of field = if bytes_eq field (codes "1") then Ok 1 else if bytes_eq field (codes "2") then Ok 2 else Err code.Header
+
+-- the first row: `mix`, the format, and nothing else
+unfoldable pub header_of : List (List ℕ) → Result ℕ Code
+header_of fields = holds (begins fields (codes "mix") && (length fields == 2)) code.Header >>= λ _. format_of (field_at fields 1)
 
 -- names, each unlike those seen before it
 abbrev pub names_after : List (List ℕ) → List (List ℕ) → Result (List (List ℕ)) Code
@@ -99,16 +107,7 @@ bid_row_of n fields = holds (begins fields (codes "bid")) code.Place >>= λ _. b
 unfoldable pub end_of : List (List ℕ) → Result (Unit {0}) Code
 end_of fields = holds (length fields == 1) code.Fields
 
--- ---- limits: how much of each quantity a format lets stand
-
-pub record Limits : Type 0 where
-  pub goods : ℕ
-  pub bidders : ℕ
-  pub bids : ℕ
-  pub negatives : ℕ
-
-abbrev pub mix_one : Limits
-mix_one = record { goods = 5; bidders = 64; bids = 400; negatives = 12 }
+-- ---- limits
 
 abbrev pub is_negative : Bid → Bool
 is_negative bid = int_lt bid.weight (pos 0)
@@ -120,18 +119,23 @@ names_of bids = map (λ b. b.name) bids
 abbrev pub bids_under : List ℕ → List NamedBid → List Bid
 bids_under name bids = map (λ b. b.bid) (filter (λ b. bytes_eq name b.name) bids)
 
--- the limit that one more bid passes after those of its bidder
-abbrev pub list_limit_of : Limits → List Bid → Bid → Option What
-list_limit_of limits bids bid =
-    if nat_le limits.bids (length bids) then Some what.Bids
-    else if is_negative bid && nat_le limits.negatives (count_by is_negative bids) then Some what.Negatives
+-- the first limit that one more bid passes after those of its bidder's list
+unfoldable pub list_limit_of : Limits → Book → Bid → Option What
+list_limit_of limits list bid =
+    if nat_le limits.bids (length list.bids) then Some what.Bids
+    else if is_negative bid && is_past limits.negatives (suc (count_by is_negative list.bids)) then Some what.Negatives
+    else if is_past limits.cells (cells (with_bid list bid)) then Some what.Cells
     else None
 
--- the first limit that a bid passes after those before it
-unfoldable pub limit_of : Limits → List NamedBid → NamedBid → Option What
-limit_of limits before b =
+-- the list over n goods of the bids of one name
+abbrev pub list_under : ℕ → List ℕ → List NamedBid → Book
+list_under n name bids = record { goods = n; bids = bids_under name bids }
+
+-- the first limit that a bid over n goods passes after those before it
+unfoldable pub limit_of : Limits → ℕ → List NamedBid → NamedBid → Option What
+limit_of limits n before b =
     if not (is_among b.name (names_of before)) && nat_le limits.bidders (length (different (names_of before))) then Some what.Bidders
-    else list_limit_of limits (bids_under b.name before) b.bid
+    else list_limit_of limits (list_under n b.name before) b.bid
 
 -- ---- the rows in order
 
@@ -169,12 +173,12 @@ bids_from limits n next before (row ∷ rest) =
     then (placed row.number (end_of row.fields) >>= λ _. Ok (before, rest))
     else (
     placed row.number (bid_row_of n row.fields) >>= λ b.
-    unless_past row.number (limit_of limits before b) >>= λ _.
+    unless_past row.number (limit_of limits n before b) >>= λ _.
     bids_from limits n next (before ++ (b ∷ [])) rest)
 
 -- the bidders of these bids over n goods: their different names in order of first appearance, each with its bids in their order
 abbrev pub bidders_of : ℕ → List NamedBid → List (List ℕ × Book)
-bidders_of n bids = map (λ name. (name, record { goods = n; bids = bids_under name bids })) (different (names_of bids))
+bidders_of n bids = map (λ name. (name, list_under n name bids)) (different (names_of bids))
 
 -- the limit of goods
 abbrev pub past_goods : Limits → List (List ℕ) → Option What
@@ -185,14 +189,14 @@ unfoldable pub goods_at : Limits → RowText → Result (List (List ℕ)) TextEr
 goods_at limits row = placed row.number (goods_row_of row.fields) >>= λ goods. unless_past row.number (past_goods limits goods) >>= λ _. Ok goods
 
 -- the auction of a text's rows and the rows after it, or what is wrong first
-unfoldable pub reading_of : Limits → List RowText → Result (AuctionText × RestText) TextError
-reading_of limits rows =
-    read_at rows 0 header_of >>= λ _.
-    row_at rows 1 >>= goods_at limits >>= λ goods.
+unfoldable pub reading_of : List RowText → Result (AuctionText × RestText) TextError
+reading_of rows =
+    read_at rows 0 header_of >>= λ format.
+    row_at rows 1 >>= goods_at (limits_of format) >>= λ goods.
     read_at rows 2 (numbers_of (codes "supply") (length goods) (pos 0) (pos 1000000)) >>= λ supply.
     read_at rows 3 (numbers_of (codes "reserve") (length goods) (pos 0) (pos 1000000)) >>= λ reserve.
-    bids_from limits (length goods) (length rows + 1) [] (drop 4 rows) >>= λ read.
-    Ok (record { goods = goods; supply = supply; reserve = reserve; bidders = bidders_of (length goods) read.0 }, record { rows = read.1; next = length rows + 1 })
+    bids_from (limits_of format) (length goods) (length rows + 1) [] (drop 4 rows) >>= λ read.
+    Ok (record { format = format; goods = goods; supply = supply; reserve = reserve; bidders = bidders_of (length goods) read.0 }, record { rows = read.1; next = length rows + 1 })
 
 -- no row is left, or the first that is left is a fault
 abbrev pub nothing_after : List RowText → Result (Unit {0}) Fault
@@ -215,9 +219,9 @@ prices_after n rest = price_in n rest.next rest.rows
 abbrev pub IsFromText : {X : Type 0} → Result X TextError → TextError → Type 0
 IsFromText read e = (e ≡ error.Memory) ⊎ (read ≡ Err e)
 
--- these bidders are those of the bids from the fifth row on, over n goods, and their auction ends before the row at a place
-pub record ReadsBids (n : ℕ) (rows : List RowText) (bidders : List (List ℕ × Book)) (place : ℕ) : Type 0 where
+-- these bidders are those of the bids from the fifth row on, over n goods and within the limits, and their auction ends before the row at a place
+pub record ReadsBids (limits : Limits) (n : ℕ) (rows : List RowText) (bidders : List (List ℕ × Book)) (place : ℕ) : Type 0 where
   pub bids : List NamedBid
-  pub read : bids_from mix_one n (length rows + 1) [] (drop 4 rows) ≡ Ok (bids, drop place rows)
+  pub read : bids_from limits n (length rows + 1) [] (drop 4 rows) ≡ Ok (bids, drop place rows)
   pub gathered : bidders ≡ bidders_of n bids
   pub within : place ≤ length rows

@@ -10,14 +10,15 @@ use mix_bids::BidList;
 use mix_num::{Bundle, Prices};
 
 /// An auction: 1 to 8 goods by name, for each a supply and a reserve price from 0 to 1,000,000, and at most 256
-/// bidders by name, each with 1 to 400 bids over these goods.
+/// bidders by name, each with 1 to 400 bids over these goods. Its format is 1 or 2, and says which limits its text keeps.
 #[derive(Drop)]
 pub struct Auction {
+    pub format: u8,
     pub goods: Names,
     pub supply: Bundle,
     pub reserve: Prices,
     pub bidders: Bidders,
-    ghost sound: { IsAuction (record { goods = goods; supply = supply.items; reserve = reserve.items; bidders = bidders }) },
+    ghost sound: { IsAuction (record { format = format; goods = goods; supply = supply.items; reserve = reserve.items; bidders = bidders }) },
 }
 
 impl Auction {

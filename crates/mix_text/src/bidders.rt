@@ -1,8 +1,13 @@
 // The bidders by name, in order of first appearance.
-ghost use Rattle.std.specs.Prelude.{◌≡◌, ◌<◌, ◌∷◌, ◌++◌, [], None, length, IfSome, OnOk, OnErr};
+ghost use Rattle.std.specs.Prelude.{◌≡◌, ◌<◌, ◌∷◌, ◌++◌, [], None, length, IfOk, IfSome, OnOk, OnErr};
 ghost use Rattle.mix_bids.specs.Bids.{IsBid};
 ghost use Rattle.mix_text.specs.Bidders.{list_at, name_at, place_of, with_bid_at};
+ghost use Rattle.mix_text.specs.Formats.{AreLimits};
+ghost use Rattle.mix_text.specs.Reading.{list_limit_of};
 
+use crate::bid_limits::push_within;
+use crate::faults::What;
+use crate::formats::Limits;
 use crate::spelling::Name;
 use indexmap::IndexMap;
 use mix_bids::{Bid, BidList};
@@ -71,21 +76,30 @@ impl Bidders {
         self.named.get_index(k).unwrap()
     }
 
-    /// Adds a bid at the end of the list of the bidder at a place, from 0.
-    pub fn push_bid(&mut self, k: usize, bid: Bid) -> Result<(), Memory>
+    /// Adds a bid at the end of the list of the bidder at a place, from 0, unless it would be one too many, and gives the
+    /// first limit that it passes.
+    ///
+    /// Where it passes a limit, or memory is wanting, the bidders are of no further use.
+    pub(crate) fn push_within(
+        &mut self,
+        k: usize,
+        limits: &Limits,
+        bid: Bid,
+    ) -> Result<Option<What>, Memory>
+        requires limits { AreLimits limits.now }
         requires place { k < length self.old }
         requires bid { IsBid (list_at self.old k).goods bid }
-        requires room { length (list_at self.old k).bids < 400 }
-        ensures ok { OnOk result (self.new ≡ with_bid_at self.old k bid) }
-        ensures err { OnErr result (self.new ≡ self.old) }
+        ensures limit { IfOk result (λ limit. limit ≡ list_limit_of limits.now (list_at self.old k) bid) }
+        ensures added { IfOk result (λ limit. limit ≡ None → self.new ≡ with_bid_at self.old k bid) }
     {
-        self.named[k].push(bid)
+        push_within(limits, &mut self.named[k], bid)
     }
 }
 
 #[cfg(test)]
 mod tests {
     use super::*;
+    use crate::formats::limits_of;
     use crate::spelling::read_name;
     use mix_bids::Values;
     use std::test::Fail;
@@ -110,10 +124,11 @@ mod tests {
         assert_eq!(rt; bidders.count(), 2);
         let mut values = Values::new();
         values.push(Some(5));
-        bidders
-            .push_bid(1, Bid { weight: 2, values })
+        let limit = bidders
+            .push_within(1, &limits_of(1), Bid { weight: 2, values })
             .ok()
             .ok_or("memory")?;
+        assert!(rt; limit.is_none());
         let (name, list) = bidders.bidder(1);
         assert_eq!(rt; *name, second);
         assert_eq!(rt; list.bids().len(), 1);

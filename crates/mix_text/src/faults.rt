@@ -4,7 +4,7 @@ use thiserror::Error;
 /// What is wrong with a row.
 #[derive(Clone, Copy, PartialEq, Eq, Debug)]
 pub enum Code {
-    /// The first row isn't the header.
+    /// The first row names no format.
     Header,
     /// The first field isn't a word that may stand here.
     Place,
@@ -43,6 +43,8 @@ pub enum What {
     Bids,
     /// The bids of negative weight of one bidder.
     Negatives,
+    /// The cells of one bidder's list.
+    Cells,
 }
 
 /// A row that is wrong.

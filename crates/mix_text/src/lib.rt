@@ -2,8 +2,10 @@
 #![tactic(auto)]
 
 mod auction;
+mod bid_limits;
 mod bidders;
 mod faults;
+mod formats;
 mod names;
 mod page;
 mod price;

@@ -1,17 +1,18 @@
 // The auction of a text: its rows in order, up to the first that has a fault or passes a limit.
-ghost use Rattle.std.specs.Prelude.{◌≡◌, ◌≢◌, ◌≤◌, ◌<◌, ◌+◌, ◌∷◌, ◌++◌, [], List, ℕ, Some, None, Ok, Err, length, drop, nat_le, if◌then◌else◌, count_by, codes, pos, IfOk, IfErr, OnOk};
+ghost use Rattle.std.specs.Prelude.{◌≡◌, ◌≢◌, ◌≤◌, ◌<◌, ◌+◌, ◌∷◌, ◌++◌, [], List, ℕ, Some, None, Ok, Err, length, drop, codes, pos, IfOk, IfErr, OnOk};
 ghost use Rattle.mix_bids.specs.Bids.{IsBid};
-ghost use Rattle.mix_bids.specs.declared.bid.Bid.{Bid};
 ghost use Rattle.mix_text.specs.Bidders.{place_of};
 ghost use Rattle.mix_text.specs.AuctionTexts.{auction_text};
+ghost use Rattle.mix_text.specs.Formats.{AreLimits};
 ghost use Rattle.mix_text.specs.Limits.{MeetsLimits};
-ghost use Rattle.mix_text.specs.Names.{is_among};
 ghost use Rattle.mix_text.specs.Rows.{RestText, RowText, rows_of};
-ghost use Rattle.mix_text.specs.Reading.{IsFromText, ReadsBids, header_of, read_at, bidders_of, bids_from, field_at, goods_at, goods_form_of, is_negative, limit_of, list_limit_of, mix_one, NamedBid, names_after, numbers_of, placed, reading_of, row_at, unless_past};
+ghost use Rattle.mix_text.specs.Reading.{IsFromText, ReadsBids, header_of, read_at, bidders_of, bids_from, field_at, goods_at, goods_form_of, limit_of, list_limit_of, NamedBid, names_after, numbers_of, placed, reading_of, row_at, unless_past};
 
 use crate::auction::Auction;
+use crate::bid_limits::push_within;
 use crate::bidders::Bidders;
 use crate::faults::{Code, Fault, Limit, TextError, What};
+use crate::formats::{Limits, limits_of};
 use crate::names::Names;
 use crate::rest::Rest;
 use crate::row::Row;
@@ -21,15 +22,6 @@ use crate::spelling::{Name, read_name};
 use mix_bids::{Bid, BidList};
 use mix_num::{Memory, Prices};
 use std::alloc::Global;
-
-// How much the format `mix,1` lets stand.
-const MOST_GOODS: usize = 5;
-
-const MOST_BIDDERS: usize = 64;
-
-const MOST_BIDS: usize = 400;
-
-const MOST_NEGATIVES: usize = 12;
 
 // The fault of the row with this number.
 fn fault(number: u64, code: Code) -> TextError
@@ -97,98 +89,67 @@ fn goods_form(row: &Row) -> Result<(), Code>
 
 // Reads the row of the goods.
 #[tactic(auto, unfolding(crate::specs::Reading::goods_at, crate::specs::Reading::goods_row_of))]
-fn read_goods(alloc: Global, row: &Row) -> Result<Names, TextError>
-    ensures read { IfOk result (λ names. goods_at mix_one row.now ≡ Ok names) }
-    ensures wrong { IfErr result (λ e. IsFromText (goods_at mix_one row.now) e) }
+fn read_goods(alloc: Global, limits: &Limits, row: &Row) -> Result<Names, TextError>
+    ensures read { IfOk result (λ names. goods_at limits.now row.now ≡ Ok names) }
+    ensures wrong { IfErr result (λ e. IsFromText (goods_at limits.now row.now) e) }
 {
     if let Err(code) = goods_form(row) {
         return Err(fault(row.number(), code));
     }
     let names = read_names(alloc, row)?;
-    if names.len() > MOST_GOODS {
+    if names.len() > limits.goods {
         return Err(limit(row.number(), What::Goods));
     }
     Ok(names)
 }
 
-// How many of these bids are negative.
-fn negatives(bids: &[Bid]) -> usize
-    ensures { result ≡ count_by is_negative bids.now }
-{
-    bids.iter().filter(|bid| bid.weight < 0).count()
-}
-
-// The limit that one more bid would pass after those of its bidder.
-fn list_limit(bids: &[Bid], bid: &Bid) -> Option<What>
-    ensures { result ≡ list_limit_of mix_one bids.now bid.now }
-{
-    if bids.len() >= MOST_BIDS {
-        return Some(What::Bids);
-    }
-    if bid.weight < 0 && negatives(bids) >= MOST_NEGATIVES {
-        return Some(What::Negatives);
-    }
-    None
-}
-
-// The limit that the first bid of one more bidder would pass.
-fn bidder_limit(bidders: &Bidders) -> Option<What>
-    ensures { (bid : Bid) → result ≡ (if nat_le mix_one.bidders (length bidders.now) then Some What.Bidders else list_limit_of mix_one [] bid) }
-{
-    if bidders.count() >= MOST_BIDDERS {
-        Some(What::Bidders)
-    } else {
-        None
-    }
-}
-
-// Adds the first bid of a new bidder.
+// Adds the first bid of a new bidder, and gives the first limit that it passes.
 fn add_bidder(
     alloc: Global,
-    bidders: &mut Bidders,
-    goods: usize,
-    name: Name,
-    bid: Bid,
-) -> Result<(), Memory>
-    requires goods { (1 ≤ goods) × (goods ≤ 8) }
-    requires absent { place_of name.bytes bidders.old ≡ None }
-    requires bid { IsBid goods bid }
-    ensures { OnOk result (bidders.new ≡ bidders.old ++ (name.bytes, record { goods = goods; bids = bid ∷ [] }) ∷ []) }
-{
-    let mut list = BidList::new(alloc, goods);
-    list.push(bid)?;
-    bidders.add(name, list)
-}
-
-// Adds a bid to the bidders of those before it, unless it passes a limit.
-#[tactic(auto, using(crate::proofs::Bids::gathers_new, crate::proofs::Bids::limit_more))]
-fn add_bid(
-    alloc: Global,
+    limits: &Limits,
     bidders: &mut Bidders,
     goods: usize,
     name: Name,
     bid: Bid,
 ) -> Result<Option<What>, Memory>
+    requires limits { AreLimits limits.now }
+    requires goods { (1 ≤ goods) × (goods ≤ 8) }
+    requires absent { place_of name.bytes bidders.old ≡ None }
+    requires bid { IsBid goods bid }
+    ensures limit { IfOk result (λ limit. limit ≡ list_limit_of limits.now (record { goods = goods; bids = [] }) bid) }
+    ensures added { IfOk result (λ limit. limit ≡ None → bidders.new ≡ bidders.old ++ (name.bytes, record { goods = goods; bids = bid ∷ [] }) ∷ []) }
+{
+    let mut list = BidList::new(alloc, goods);
+    let limit = push_within(limits, &mut list, bid)?;
+    bidders.add(name, list)?;
+    Ok(limit)
+}
+
+// Adds a bid to the bidders of those before it, and gives the first limit that it passes. Where it passes one, the
+// bidders are of no further use.
+#[tactic(auto, using(crate::proofs::Bids::gathers_new, crate::proofs::Bids::limit_more))]
+fn add_bid(
+    alloc: Global,
+    limits: &Limits,
+    bidders: &mut Bidders,
+    goods: usize,
+    name: Name,
+    bid: Bid,
+) -> Result<Option<What>, Memory>
+    requires limits { AreLimits limits.now }
     requires goods { (1 ≤ goods) × (goods ≤ 8) }
     requires bid { IsBid goods bid }
     requires gathered { (before : List NamedBid) × (bidders.old ≡ bidders_of goods before) }
-    ensures limit { IfOk result (λ limit. (before : List NamedBid) → bidders.old ≡ bidders_of goods before → limit ≡ limit_of mix_one before (record { name = name.bytes; bid = bid })) }
+    ensures limit { IfOk result (λ limit. (before : List NamedBid) → bidders.old ≡ bidders_of goods before → limit ≡ limit_of limits.now goods before (record { name = name.bytes; bid = bid })) }
     ensures added { IfOk result (λ limit. (before : List NamedBid) → bidders.old ≡ bidders_of goods before → limit ≡ None → bidders.new ≡ bidders_of goods (before ++ record { name = name.bytes; bid = bid } ∷ [])) }
 {
     match bidders.find(&name) {
-        Some(k) => {
-            let limit = list_limit(bidders.bidder(k).1.bids(), &bid);
-            if limit.is_none() {
-                bidders.push_bid(k, bid)?;
-            }
-            Ok(limit)
-        }
+        Some(k) => bidders.push_within(k, limits, bid),
         None => {
-            let limit = bidder_limit(bidders);
-            if limit.is_none() {
-                add_bidder(alloc, bidders, goods, name, bid)?;
+            if bidders.count() >= limits.bidders {
+                return Ok(Some(What::Bidders));
             }
-            Ok(limit)
+            add_bidder(alloc, limits, bidders, goods, name, bid)
         }
     }
 }
@@ -201,10 +162,16 @@ struct Gathered {
 }
 
 // Reads the bids over `goods` goods from the fifth row on, up to the row `end`.
-fn read_bids(alloc: Global, rows: &[Row], goods: usize) -> Result<Gathered, TextError>
-    requires { (1 ≤ goods) × (goods ≤ 8) }
-    ensures read { IfOk result (λ read. ReadsBids goods rows.now read.bidders read.after) }
-    ensures wrong { IfErr result (λ e. IsFromText (bids_from mix_one goods (length rows.now + 1) [] (drop 4 rows.now)) e) }
+fn read_bids(
+    alloc: Global,
+    limits: &Limits,
+    rows: &[Row],
+    goods: usize,
+) -> Result<Gathered, TextError>
+    requires limits { AreLimits limits.now }
+    requires goods { (1 ≤ goods) × (goods ≤ 8) }
+    ensures read { IfOk result (λ read. ReadsBids limits.now goods rows.now read.bidders read.after) }
+    ensures wrong { IfErr result (λ e. IsFromText (bids_from limits.now goods (length rows.now + 1) [] (drop 4 rows.now)) e) }
 {
     let mut bidders = Bidders::new(alloc);
     for k in 4..rows.len() {
@@ -222,7 +189,7 @@ fn read_bids(alloc: Global, rows: &[Row], goods: usize) -> Result<Gathered, Text
             Ok(named) => named,
             Err(code) => return Err(fault(row.number(), code)),
         };
-        match add_bid(alloc, &mut bidders, goods, name, bid) {
+        match add_bid(alloc, limits, &mut bidders, goods, name, bid) {
             Ok(None) => {}
             Ok(Some(what)) => return Err(limit(row.number(), what)),
             Err(Memory) => return Err(TextError::Memory),
@@ -244,13 +211,13 @@ fn read_amounts(rows: &[Row], k: usize, word: &[u8], goods: usize) -> Result<Pri
     }
 }
 
-// Reads the first row.
-fn read_first(rows: &[Row]) -> Result<(), TextError>
+// Reads the first row, which names the format.
+fn read_first(rows: &[Row]) -> Result<u8, TextError>
     ensures { result ≡ read_at rows.now 0 header_of }
 {
     let row = row_or_end(rows, 0)?;
     match read_header(row) {
-        Ok(()) => Ok(()),
+        Ok(format) => Ok(format),
         Err(code) => Err(fault(row.number(), code)),
     }
 }
@@ -265,18 +232,20 @@ struct ReadRows {
 // Reads the auction of these rows.
 #[tactic(auto, unfolding(crate::specs::Reading::reading_of), using(crate::proofs::SoundAuctions::auction_ok))]
 fn read_rows(alloc: Global, rows: &[Row]) -> Result<ReadRows, TextError>
-    ensures read { IfOk result (λ read. reading_of mix_one rows.now ≡ Ok (auction_text read.auction, record { rows = drop read.after rows.now; next = length rows.now + 1 })) }
+    ensures read { IfOk result (λ read. reading_of rows.now ≡ Ok (auction_text read.auction, record { rows = drop read.after rows.now; next = length rows.now + 1 })) }
     ensures within { IfOk result (λ read. read.after ≤ length rows.now) }
-    ensures wrong { IfErr result (λ e. IsFromText (reading_of mix_one rows.now) e) }
+    ensures wrong { IfErr result (λ e. IsFromText (reading_of rows.now) e) }
 {
-    read_first(rows)?;
-    let goods = read_goods(alloc, row_or_end(rows, 1)?)?;
+    let format = read_first(rows)?;
+    let limits = limits_of(format);
+    let goods = read_goods(alloc, &limits, row_or_end(rows, 1)?)?;
     let count = goods.len();
     let supply = read_amounts(rows, 2, b"supply", count)?;
     let reserve = read_amounts(rows, 3, b"reserve", count)?;
-    let gathered = read_bids(alloc, rows, count)?;
+    let gathered = read_bids(alloc, &limits, rows, count)?;
     Ok(ReadRows {
         auction: Auction {
+            format,
             goods,
             supply,
             reserve,
@@ -286,17 +255,18 @@ fn read_rows(alloc: Global, rows: &[Row]) -> Result<ReadRows, TextError>
     })
 }
 
-/// Reads the auction of a text of at most 4,194,304 bytes, and the rows after it.
+/// Reads the auction of a text of at most 16,777,216 bytes, and the rows after it.
 ///
 /// The rows are looked at in order, and the first that has a fault or passes a limit decides, a fault before a limit
 /// within a row. Where the rows end before `end`, that is the fault `End` of the row that would come next.
-/// The auction that is read keeps to the limits of its format: 5 goods, 64 bidders, and of each bidder 400 bids and 12
-/// of negative weight. `Memory` may come in place of any answer.
+/// The auction that is read keeps to the limits of its format. Of each bidder both let 400 bids stand. Format 1 has at
+/// most 5 goods, 64 bidders, and of each bidder 12 bids of negative weight; format 2 has at most 8 goods, 256 bidders,
+/// and of each bidder's list 4,194,304 cells. `Memory` may come in place of any answer.
 pub fn read_auction(alloc: Global, text: &[u8]) -> Result<(Auction, Rest), TextError>
-    requires { length text.now ≤ 4194304 }
-    ensures read { IfOk result (λ p. reading_of mix_one (rows_of text.now) ≡ Ok (auction_text p.0, p.1)) }
-    ensures limits { IfOk result (λ p. MeetsLimits mix_one (auction_text p.0)) }
-    ensures wrong { IfErr result (λ e. IsFromText (reading_of mix_one (rows_of text.now)) e) }
+    requires { length text.now ≤ 16777216 }
+    ensures read { IfOk result (λ p. reading_of (rows_of text.now) ≡ Ok (auction_text p.0, p.1)) }
+    ensures limits { IfOk result (λ p. MeetsLimits (auction_text p.0)) }
+    ensures wrong { IfErr result (λ e. IsFromText (reading_of (rows_of text.now)) e) }
 {
     let list = match rows(alloc, text) {
         Ok(list) => list,

@@ -75,11 +75,11 @@ fn want_of_memory(error: Error) -> Memory
     Memory
 }
 
-/// The rows of a text of at most 4,194,304 bytes, without the byte order marks at its head.
+/// The rows of a text of at most 16,777,216 bytes, without the byte order marks at its head.
 ///
 /// A record loses the empty fields at its end, and a record that has none left is passed over.
 pub fn rows(alloc: Global, text: &[u8]) -> Result<RowList, Memory>
-    requires { length text.now ≤ 4194304 }
+    requires { length text.now ≤ 16777216 }
     ensures { IfOk result (λ list. list ≡ rows_of text.now) }
 {
     let reader = ReaderBuilder::new()
@@ -106,7 +106,7 @@ mod tests {
 
     // Whether the rows of a text have these fields, and are numbered from 1.
     fn are_rows(alloc: Global, text: &[u8], wanted: &[&[&[u8]]]) -> Result<bool, Fail>
-        requires { length text.now ≤ 4194304 }
+        requires { length text.now ≤ 16777216 }
     {
         let list = rows(alloc, text).ok().ok_or("memory")?;
         for (i, fields) in wanted.iter().enumerate() {

@@ -1,6 +1,6 @@
 // What a row says by itself, or the code of the first of its tests that fails.
 ghost use Rattle.std.specs.Prelude.{◌≡◌, ◌≤◌, ◌<◌, ◌≤ℤ◌, pos, neg_ℤ, length, drop, IfOk, IfErr};
-ghost use Rattle.mix_text.specs.Reading.{begins, bid_of, bid_row_of, each_of, end_of, field_at, header_of, holds, number_in, numbers_of, value_of, weight_of};
+ghost use Rattle.mix_text.specs.Reading.{begins, bid_of, bid_row_of, each_of, end_of, field_at, format_of, header_of, holds, number_in, numbers_of, value_of, weight_of};
 ghost use Rattle.mix_bids.specs.Offers.{offers_some};
 
 use crate::faults::Code;
@@ -30,15 +30,26 @@ pub fn unless(test: bool, code: Code) -> Result<(), Code>
     if test { Ok(()) } else { Err(code) }
 }
 
-/// Reads the first row.
+// The format that a field names.
+fn read_format(field: &[u8]) -> Result<u8, Code>
+    ensures { result ≡ format_of field.now }
+{
+    if field == b"1".as_slice() {
+        Ok(1)
+    } else if field == b"2".as_slice() {
+        Ok(2)
+    } else {
+        Err(Code::Header)
+    }
+}
+
+/// Reads the first row, which names the format.
 #[tactic(auto, unfolding(crate::specs::Reading::header_of))]
-pub(crate) fn read_header(row: &Row) -> Result<(), Code>
+pub(crate) fn read_header(row: &Row) -> Result<u8, Code>
     ensures { result ≡ header_of row.now.fields }
 {
-    let is_header = row_begins(row, b"mix")
-        && field_or_empty(row, 1) == b"1".as_slice()
-        && row.len() == 2;
-    unless(is_header, Code::Header)
+    unless(row_begins(row, b"mix") && row.len() == 2, Code::Header)?;
+    read_format(field_or_empty(row, 1))
 }
 
 /// Reads the last row of an auction, whose word is known.

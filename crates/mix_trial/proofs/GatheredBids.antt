@@ -1,5 +1,5 @@
 -- The bids of bidders, one after the other, are gathered into these bidders again.
-use Rattle.std.proofs.Common.{◌≡◌, ◌∙◌, sym, ap, ap₂, refl, ◌≤◌, true, false, inl, inr, ℕ, List, [], ◌∷◌, ◌++◌, map, filter, length, append-nil, arith, All, true≢false}
+use Rattle.std.proofs.Common.{◌≡◌, ◌∙◌, sym, ap, ap₂, refl, ◌≤◌, true, false, inl, inr, ℕ, List, [], ◌∷◌, ◌++◌, map, filter, length, append-nil, arith, All, subst, true≢false}
 use Rattle.std.specs.Str.{bytes_eq}
 use Rattle.std.proofs.lemmas.Bool.{cases_Bool}
 use Rattle.std.proofs.lemmas.List.{map-append}
@@ -10,11 +10,12 @@ use Rattle.mix_text.specs.Auctions.{IsBook}
 use Rattle.mix_text.specs.Limits.{BidsMeet}
 use Rattle.mix_text.specs.Bidders.{Named}
 use Rattle.mix_text.specs.Names.{different, is_among}
-use Rattle.mix_text.specs.Reading.{Limits, NamedBid, bidders_of, bids_under, names_of}
+use Rattle.mix_text.specs.Reading.{NamedBid, bidders_of, bids_under, list_under, names_of}
 use Rattle.mix_text.specs.Spelling.{is_name}
+use Rattle.mix_text.specs.declared.formats.Limits.{Limits}
 use Rattle.mix_text.proofs.Gathering.{Unlike, bids_under_none, bytes_eq_refl, keeps_all, map_other, same_bytes, unlike}
 use Rattle.mix_text.proofs.Sound.{IsNamedBid}
-use Rattle.mix_text.proofs.SoundAuctions.{turned}
+use Rattle.mix_text.proofs.SoundAuctions.{no_bids, turned}
 use Rattle.mix_trial.specs.Printing.{bid_row, bidder_rows}
 use Rattle.mix_trial.proofs.ReadBids.{bids_under-append, named_row}
 
@@ -142,17 +143,20 @@ all_named n (b ∷ rest) names books =
     let book = All-head B b rest books in
     All-append (IsNamedBid n) (under_name b.0 b.1.bids) (bids_of rest) (one_named n b.0 b.1.bids (All-head N b rest names) book.bids) (all_named n rest (All-tail N b rest names) (All-tail B b rest books))
 
--- the bids of a name keep to the limits where the list of each bidder does
-pub under_meets : (limits : Limits) (bidders : Named) → Unlike (names bidders) → All (λ bidder. BidsMeet limits bidder.1.bids) bidders → (m : List ℕ) → BidsMeet limits (bids_under m (bids_of bidders))
-under_meets limits [] apart meet m = record { bids = omega arith; negatives = omega arith }
-under_meets limits (b ∷ rest) apart meet m =
-    let P : List ℕ × Book → Type 0 = λ bidder. BidsMeet limits bidder.1.bids in
+-- the list of a name keeps to the limits where the list of each bidder does
+pub under_meets : (limits : Limits) (n : ℕ) (bidders : Named) → All (λ bidder. IsBook n bidder.1) bidders → Unlike (names bidders) → All (λ bidder. BidsMeet limits bidder.1) bidders
+    → (m : List ℕ) → BidsMeet limits (list_under n m (bids_of bidders))
+under_meets limits n [] books apart meet m = no_bids limits n
+under_meets limits n (b ∷ rest) books apart meet m =
+    let B : List ℕ × Book → Type 0 = λ bidder. IsBook n bidder.1 in
+    let P : List ℕ × Book → Type 0 = λ bidder. BidsMeet limits bidder.1 in
     let parts = bids_under-append m (under_name b.0 b.1.bids) (bids_of rest) in
     rw parts (elim (cases_Bool (bytes_eq m b.0)) [
       | inl t ↦ (
           let same = same_bytes m b.0 t in
+          let goods = (All-head B b rest books).goods in
           let none : bids_under m (bids_of rest) ≡ [] = bids_under_none m (bids_of rest) (nowhere m rest (ap (λ (x : List ℕ). is_among x (names rest)) same ∙ apart.0)) in
           let mine : bids_under m (under_name b.0 b.1.bids) ≡ b.1.bids = ap (λ (x : List ℕ). bids_under x (under_name b.0 b.1.bids)) same ∙ own b.0 b.1.bids in
-          rw (none, mine, append-nil b.1.bids) (All-head P b rest meet))
-      | inr f ↦ (let other = not_own m b.0 b.1.bids f in rw other (under_meets limits rest apart.1 (All-tail P b rest meet) m))
+          rw (none, mine, append-nil b.1.bids) (subst (λ (g : ℕ). BidsMeet limits (record { goods = g; bids = b.1.bids })) goods (All-head P b rest meet)))
+      | inr f ↦ (let other = not_own m b.0 b.1.bids f in rw other (under_meets limits n rest (All-tail B b rest books) apart.1 (All-tail P b rest meet) m))
     ])

@@ -1,5 +1,5 @@
 -- The text of an auction is its printed rows, and each of them may be printed.
-use Rattle.std.proofs.Common.{◌≡◌, ◌∙◌, sym, ap, refl, ◌&&◌, true, ℕ, ℤ, List, [], ◌∷◌, ◌++◌, append_assoc, map, length, arith, All, Option, Some, None, Result, Ok, Err, IfOk, rules, nat_lt}
+use Rattle.std.proofs.Common.{◌≡◌, ◌∙◌, sym, ap, refl, ◌&&◌, true, ℕ, ℤ, pos, List, [], ◌∷◌, ◌++◌, append_assoc, map, length, arith, All, Option, Some, None, nat_lt}
 use Rattle.std.specs.Prelude.{codes}
 use Rattle.std.specs.Fmt.{signed_decimal}
 use Rattle.std.specs.Int.RustNames.{FitsSigned}
@@ -22,11 +22,6 @@ use Rattle.mix_text.proofs.Spellings.{name_printable}
 use Rattle.mix_trial.specs.Printing.{amounts_row, auction_rows, bid_row, bidder_rows, end_row, goods_row, head_row, value_text}
 use Rattle.mix_trial.proofs.PrintedBids.{printed-append}
 
--- what holds of a value where it is there may be weakened
-pub if_ok : {A E : Type 0} (P Q : A → Type 0) (r : Result A E) → ((x : A) → P x → Q x) → IfOk r P → IfOk r Q
-if_ok P Q (Ok x) f h = f x h
-if_ok P Q (Err e) f h = search rules
-
 whole_text : (a b c d f g : List ℕ) → ((((a ++ b) ++ c) ++ d) ++ f) ++ g ≡ a ++ (b ++ (c ++ (d ++ (f ++ g))))
 whole_text a b c d f g = simp append_assoc
 
@@ -41,7 +36,7 @@ last_text rows row = ap (λ (t : List ℕ). printed rows ++ t) (alone (line_of r
 pub auction_pages : (a : AuctionText) (sold least : List ℤ) (start head goods supply reserve bids all : PageText)
     → sold ≡ a.supply → least ≡ a.reserve
     → start ≡ record { ended = []; fields = [] }
-    → head ≡ record { ended = start.ended ++ line_of head_row; fields = [] }
+    → head ≡ record { ended = start.ended ++ line_of (head_row a.format); fields = [] }
     → goods ≡ record { ended = head.ended ++ line_of (goods_row a.goods); fields = [] }
     → supply ≡ record { ended = goods.ended ++ line_of (amounts_row (codes "supply") sold); fields = [] }
     → reserve ≡ record { ended = supply.ended ++ line_of (amounts_row (codes "reserve") least); fields = [] }
@@ -49,7 +44,7 @@ pub auction_pages : (a : AuctionText) (sold least : List ℤ) (start head goods 
     → all ≡ record { ended = bids.ended ++ line_of end_row; fields = [] }
     → all.ended ≡ printed (auction_rows a)
 auction_pages a sold least start head goods supply reserve bids all same at_least s h g p r b e =
-    let before : List ℕ = line_of head_row in
+    let before : List ℕ = line_of (head_row a.format) in
     let one : List ℕ = line_of (goods_row a.goods) in
     let two : List ℕ = line_of (amounts_row (codes "supply") a.supply) in
     let three : List ℕ = line_of (amounts_row (codes "reserve") a.reserve) in
@@ -131,9 +126,11 @@ each_name (b ∷ bs) h =
 
 pub auction_printable : (a : AuctionText) → IsAuction a → list_all is_printable_row (auction_rows a) ≡ true
 auction_printable a is =
+    let format = is.format in
+    let head = signed_printable (pos a.format) (omega (arith, ints)) in
     let goods = word_row (codes "goods") a.goods refl (names_printable a.goods is.goods.form) in
     let supply = word_row (codes "supply") (map signed_decimal a.supply) refl (amounts_printable a.supply is.supply.1) in
     let reserve = word_row (codes "reserve") (map signed_decimal a.reserve) refl (amounts_printable a.reserve is.reserve.1) in
     let bids = bidders_printable (length a.goods) a.bidders (each_name a.bidders is.names.form) is.books in
     let last = list_all-append is_printable_row (bidder_rows a.bidders) (end_row ∷ []) ∙ ap (λ t. t && true) bids in
-    rw (goods, supply, reserve, last) refl
+    rw (head, goods, supply, reserve, last) refl

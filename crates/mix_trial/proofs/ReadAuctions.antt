@@ -5,13 +5,15 @@ use Rattle.std.proofs.lemmas.Bool.Decides.{nat_tests}
 use Rattle.std.proofs.lemmas.List.{length-map}
 use Rattle.mix_bids.specs.Bids.{Book}
 use Rattle.mix_text.specs.Auctions.{AuctionText, IsAuction}
+use Rattle.mix_text.specs.Formats.{limits_of}
 use Rattle.mix_text.specs.Limits.{MeetsLimits}
 use Rattle.mix_text.specs.Names.{AreNames}
 use Rattle.mix_text.specs.Pages.{printed}
-use Rattle.mix_text.specs.Reading.{◌>>=◌, Limits, bids_from, goods_at, header_of, numbers_of, read_at, reading_of, row_at}
+use Rattle.mix_text.specs.Reading.{◌>>=◌, bids_from, goods_at, header_of, numbers_of, read_at, reading_of, row_at}
 use Rattle.mix_text.specs.Rows.{RestText, RowText, numbered, rows_of}
 use Rattle.mix_text.specs.declared.faults.Code.{Code}
 use Rattle.mix_text.specs.declared.faults.TextError.{TextError}
+use Rattle.mix_text.specs.declared.formats.Limits.{Limits}
 use Rattle.mix_text.proofs.Gathering.{Unlike, different_unlike}
 use Rattle.mix_text.proofs.ReadBack.{rows_of-printed}
 use Rattle.mix_text.proofs.Records.{length-numbered}
@@ -37,48 +39,51 @@ goods_there limits k goods some few names =
     let past = not_past limits.goods (length goods) few in
     rw (read, past) refl
 
-few_bids : (limits : Limits) (a : AuctionText) → IsAuction a → MeetsLimits limits a → Unlike (names a.bidders) → AreFew limits (bids_of a.bidders)
-few_bids limits a is meets apart =
+few_bids : (a : AuctionText) → IsAuction a → MeetsLimits a → Unlike (names a.bidders) → AreFew (limits_of a.format) (length a.goods) (bids_of a.bidders)
+few_bids a is meets apart =
     let same = names_same (length a.goods) a.bidders is.books apart in
     let count = ap (λ (z : List (List ℕ)). length z) same in
     let few = meets.bidders in
-    record { names = omega (arith, length-map a.bidders (λ (bidder : List ℕ × Book). bidder.0)); under = under_meets limits a.bidders apart meets.lists }
+    record { names = omega (arith, length-map a.bidders (λ (bidder : List ℕ × Book). bidder.0)); under = under_meets (limits_of a.format) (length a.goods) a.bidders is.books apart meets.lists }
 
-bids_there : (limits : Limits) (a : AuctionText) (next : ℕ) → IsAuction a → MeetsLimits limits a → Unlike (names a.bidders)
-    → bids_from limits (length a.goods) next [] (numbered 5 (bidder_rows a.bidders ++ (end_row ∷ []))) ≡ Ok (bids_of a.bidders, [])
-bids_there limits a next is meets apart =
+bids_there : (a : AuctionText) (next : ℕ) → IsAuction a → MeetsLimits a → Unlike (names a.bidders)
+    → bids_from (limits_of a.format) (length a.goods) next [] (numbered 5 (bidder_rows a.bidders ++ (end_row ∷ []))) ≡ Ok (bids_of a.bidders, [])
+bids_there a next is meets apart =
+    let limits = limits_of a.format in
     let n = length a.goods in
     let all = all_named n a.bidders (each_name a.bidders is.names.form) is.books in
     ap (λ (rows : List (List (List ℕ))). bids_from limits n next [] (numbered 5 (rows ++ (end_row ∷ [])))) (sym (rows_same a.bidders))
-    ∙ bids_read limits n next 5 [] (bids_of a.bidders) all (few_bids limits a is meets apart)
+    ∙ bids_read limits n next 5 [] (bids_of a.bidders) all (few_bids a is meets apart)
 
 -- reading the rows gives the auction, and no row after it
-pub reading_back : (limits : Limits) (a : AuctionText) → IsAuction a → MeetsLimits limits a → reading_of limits (numbered 1 (auction_rows a)) ≡ Ok (a, record { rows = []; next = length (auction_rows a) + 1 })
+pub reading_back : (a : AuctionText) → IsAuction a → MeetsLimits a → reading_of (numbered 1 (auction_rows a)) ≡ Ok (a, record { rows = []; next = length (auction_rows a) + 1 })
 unfolding reading_of
-reading_back limits a is meets =
+reading_back a is meets =
+    let limits = limits_of a.format in
     let rows = numbered 1 (auction_rows a) in
     let n = length a.goods in
     let apart : Unlike (names a.bidders) = subst Unlike is.names.unlike (different_unlike (names a.bidders)) in
     let few = meets.goods in
     let supply = amounts_read (codes "supply") n a.supply is.supply in
     let reserve = amounts_read (codes "reserve") n a.reserve is.reserve in
-    let zero : read_at rows 0 header_of ≡ Ok tt = read_there rows 0 (record { number = 1; fields = head_row }) header_of tt (row_there rows 0 _ (omega arith) refl) head_read in
+    let zero : read_at rows 0 header_of ≡ Ok a.format =
+    read_there rows 0 (record { number = 1; fields = head_row a.format }) header_of a.format (row_there rows 0 _ (omega arith) refl) (head_read a.format is.format) in
     let one : (row_at rows 1 >>= goods_at limits) ≡ Ok a.goods =
     then_is (row_at rows 1) (goods_at limits) (record { number = 2; fields = goods_row a.goods }) (Ok a.goods) (row_there rows 1 _ (omega arith) refl) (goods_there limits 2 a.goods is.some_goods few is.goods) in
     let two : read_at rows 2 (numbers_of (codes "supply") n (pos 0) (pos 1000000)) ≡ Ok a.supply =
     read_there rows 2 (record { number = 3; fields = amounts_row (codes "supply") a.supply }) (numbers_of (codes "supply") n (pos 0) (pos 1000000)) a.supply (row_there rows 2 _ (omega arith) refl) supply in
     let three : read_at rows 3 (numbers_of (codes "reserve") n (pos 0) (pos 1000000)) ≡ Ok a.reserve =
     read_there rows 3 (record { number = 4; fields = amounts_row (codes "reserve") a.reserve }) (numbers_of (codes "reserve") n (pos 0) (pos 1000000)) a.reserve (row_there rows 3 _ (omega arith) refl) reserve in
-    let bids : bids_from limits n (length rows + 1) [] (drop 4 rows) ≡ Ok (bids_of a.bidders, []) = bids_there limits a (length rows + 1) is meets apart in
+    let bids : bids_from limits n (length rows + 1) [] (drop 4 rows) ≡ Ok (bids_of a.bidders, []) = bids_there a (length rows + 1) is meets apart in
     let next = length-numbered 1 (auction_rows a) in
     let same = gathered n a.bidders is.books apart in
-    then_is _ _ tt _ zero (then_is _ _ a.goods _ one (then_is _ _ a.supply _ two (then_is _ _ a.reserve _ three (then_is _ _ (bids_of a.bidders, []) _ bids (last a same (length rows) (length (auction_rows a)) next)))))
+    then_is _ _ a.format _ zero (then_is _ _ a.goods _ one (then_is _ _ a.supply _ two (then_is _ _ a.reserve _ three (then_is _ _ (bids_of a.bidders, []) _ bids (last a same (length rows) (length (auction_rows a)) next)))))
   where
     last : (a : AuctionText) {bidders : List (List ℕ × Book)} → bidders ≡ a.bidders → (m k : ℕ) → m ≡ k
-        → ◌≡◌ {A = Result (AuctionText × RestText) TextError} (Ok (record { goods = a.goods; supply = a.supply; reserve = a.reserve; bidders = bidders }, record { rows = []; next = m + 1 })) (Ok (a, record { rows = []; next = k + 1 }))
+        → ◌≡◌ {A = Result (AuctionText × RestText) TextError} (Ok (record { format = a.format; goods = a.goods; supply = a.supply; reserve = a.reserve; bidders = bidders }, record { rows = []; next = m + 1 })) (Ok (a, record { rows = []; next = k + 1 }))
     last a same m k e = rw (same, e) refl
 
 -- reading the text gives the auction, and no row after it
-pub reading_text : (limits : Limits) (a : AuctionText) (text : List ℕ) → IsAuction a → MeetsLimits limits a → text ≡ printed (auction_rows a) → reading_of limits (rows_of text) ≡ Ok (a, record { rows = []; next = length (auction_rows a) + 1 })
-reading_text limits a text is meets e =
-    ap (λ (t : List ℕ). reading_of limits (rows_of t)) e ∙ ap (reading_of limits) (rows_of-printed (auction_rows a) (auction_printable a is)) ∙ reading_back limits a is meets
+pub reading_text : (a : AuctionText) (text : List ℕ) → IsAuction a → MeetsLimits a → text ≡ printed (auction_rows a) → reading_of (rows_of text) ≡ Ok (a, record { rows = []; next = length (auction_rows a) + 1 })
+reading_text a text is meets e =
+    ap (λ (t : List ℕ). reading_of (rows_of t)) e ∙ ap reading_of (rows_of-printed (auction_rows a) (auction_printable a is)) ∙ reading_back a is meets

@@ -1,13 +1,14 @@
 -- Fields and rows as they are printed are read as what was printed.
-use Rattle.std.proofs.Common.{◌≡◌, ◌∙◌, sym, ap, refl, ◌+◌, ◌==◌, true, false, ℕ, ℤ, pos, neg_ℤ, ◌≤ℤ◌, List, [], ◌∷◌, ◌++◌, map, length, append_assoc, append-nil, ◌≤◌, arith, All, Option, Some, None, Result, Ok, int_eq}
+use Rattle.std.proofs.Common.{◌≡◌, ◌∙◌, sym, ap, refl, ◌+◌, ◌==◌, true, false, ℕ, zero, suc, ℤ, pos, neg_ℤ, ◌≤ℤ◌, List, [], ◌∷◌, ◌++◌, map, length, append_assoc, append-nil, ◌≤◌, arith, All, Option, Some, None, Result, Ok, int_eq}
 use Rattle.std.specs.Prelude.{codes, nat_le}
-use Rattle.std.specs.Fmt.{signed_decimal}
+use Rattle.std.specs.Fmt.{decimal, signed_decimal}
 use Rattle.std.specs.Int.RustNames.{FitsSigned}
 use mir.Syntax.{w64}
 use Rattle.std.specs.List.{AllPass}
 use Rattle.std.specs.Str.{bytes_eq}
 use Rattle.std.proofs.lemmas.Bool.{false_from_ne_true}
 use Rattle.std.proofs.lemmas.Bool.Decides.{nat_tests}
+use Rattle.std.proofs.lemmas.Fmt.{decimal_digit}
 use Rattle.std.proofs.lemmas.Int.{ints}
 use Rattle.std.proofs.lemmas.List.{length-map}
 use Rattle.std.proofs.lemmas.List.Elements.{All-head, All-tail, All-weaker}
@@ -15,6 +16,7 @@ use Rattle.mix_num.specs.Sellers.{AreAmounts, IsAmount}
 use Rattle.mix_bids.specs.Bids.{IsBid}
 use Rattle.mix_bids.specs.Offers.{IsOffer}
 use Rattle.mix_bids.specs.declared.bid.Bid.{Bid}
+use Rattle.mix_text.specs.Formats.{IsFormat}
 use Rattle.mix_text.specs.Names.{is_among}
 use Rattle.mix_text.specs.Spelling.{between, is_name, negative_of, spelled_number}
 use Rattle.mix_text.specs.Reading.{◌>>=◌, bid_of, bid_row_of, each_of, goods_row_of, header_of, names_after, number_in, numbers_of, value_of, weight_of}
@@ -30,9 +32,12 @@ use Rattle.mix_trial.proofs.PrintedAuctions.{offer_fits}
 pub then_is : {A B E : Type 0} (r : Result A E) (f : A → Result B E) (x : A) (y : Result B E) → r ≡ Ok x → f x ≡ y → (r >>= f) ≡ y
 then_is r f x y e h = rw e h
 
-pub head_read : header_of head_row ≡ Ok tt
+pub head_read : (format : ℕ) → IsFormat format → header_of (head_row format) ≡ Ok format
 unfolding header_of
-head_read = refl
+head_read zero is = let some = is.0 in absurd (omega arith)
+head_read (suc zero) is = let e : decimal 1 ≡ codes "1" = decimal_digit 1 (omega arith) in rw e refl
+head_read (suc (suc zero)) is = let e : decimal 2 ≡ codes "2" = decimal_digit 2 (omega arith) in rw e refl
+head_read (suc (suc (suc n))) is = let few = is.1 in absurd (omega arith)
 
 -- ---- names
 

@@ -1,5 +1,5 @@
--- A trial auction is an auction, and keeps to the limits of format `mix,1`.
-use Rattle.std.proofs.Common.{◌≡◌, ap, refl, ◌<◌, ◌≤◌, ◌+◌, ◌*◌, ◌%◌, Bool, true, false, cond, ℕ, zero, suc, ℤ, pos, neg_ℤ, List, [], ◌∷◌, map, length, length-append, arith, All, int_lt}
+-- A trial auction is an auction, and keeps to the limits of its format.
+use Rattle.std.proofs.Common.{◌≡◌, ap, refl, ◌<◌, ◌≤◌, ◌+◌, ◌*◌, ◌%◌, Bool, true, false, cond, ℕ, zero, suc, ℤ, pos, neg_ℤ, List, [], ◌∷◌, map, length, length-append, arith, All, Some, int_lt}
 use Rattle.std.specs.Prelude.{count_by}
 use Rattle.std.specs.List.{AllPass}
 use Rattle.std.proofs.lemmas.Int.{ints}
@@ -10,10 +10,12 @@ use Rattle.mix_bids.specs.Bids.{Book}
 use Rattle.mix_bids.specs.declared.bid.Bid.{Bid}
 use Rattle.mix_text.specs.Auctions.{AuctionText, IsAuction, IsBook}
 use Rattle.mix_text.specs.Bidders.{Named}
+use Rattle.mix_text.specs.Formats.{limits_of, mix_one}
 use Rattle.mix_text.specs.Limits.{BidsMeet, MeetsLimits}
 use Rattle.mix_text.specs.Names.{AreNames, is_among}
-use Rattle.mix_text.specs.Reading.{is_negative, mix_one}
+use Rattle.mix_text.specs.Reading.{is_negative}
 use Rattle.mix_text.specs.Spelling.{is_name}
+use Rattle.mix_text.proofs.FormatLimits.{fewer_past}
 use Rattle.mix_text.proofs.Gathering.{Unlike, different_same}
 use Rattle.mix_trial.specs.Draws.{alone, for_each}
 use Rattle.mix_trial.specs.Trials.{amount, auction, bid_of, bidder, bidder_name, bids, block, block_bids, good_names, one_value, single, two_values}
@@ -117,13 +119,15 @@ books_are words =
     one : (words : Words) → IsBook 5 (record { goods = 5; bids = (bids words).0 })
     one words = let size = bids_length words in record { goods = refl; some = omega arith; few = omega arith; bids = bids_are words }
 
-lists_meet : (words : Words) → All (λ (b : List ℕ × Book). BidsMeet mix_one b.1.bids) (for_each 40 1 bidder words).0
+lists_meet : (words : Words) → All (λ (b : List ℕ × Book). BidsMeet mix_one b.1) (for_each 40 1 bidder words).0
 lists_meet words =
-    let M : List ℕ × Book → Type 0 = λ b. BidsMeet mix_one b.1.bids in
+    let M : List ℕ × Book → Type 0 = λ b. BidsMeet mix_one b.1 in
     for_each_keeps (All M) bidder (All-nil M) (All-append M) (λ k w. All-cons M (bidder_name k, record { goods = 5; bids = (bids w).0 }) [] (one w) (All-nil M)) 40 1 words
   where
-    one : (words : Words) → BidsMeet mix_one (bids words).0
-    one words = let size = bids_length words in record { bids = omega arith; negatives = bids_negatives words }
+    one : (words : Words) → BidsMeet mix_one (record { goods = 5; bids = (bids words).0 })
+    one words =
+        let size = bids_length words in
+        record { bids = omega arith; negatives = fewer_past (Some 12) (count_by is_negative (bids words).0) 12 (bids_negatives words) refl; cells = refl }
 
 forty : (words : Words) → length (for_each 40 1 bidder words).0 ≡ 40
 forty words = for_each_length bidder 1 (λ k w. refl) 40 1 words
@@ -134,6 +138,7 @@ auction_is words =
     let last = (for_each 5 1 (λ _. alone (amount 0 100)) after).1 in
     let count = forty last in
     record {
+      format = (omega arith, omega arith);
       some_goods = omega arith;
       few_goods = omega arith;
       goods = goods_are;
@@ -144,7 +149,8 @@ auction_is words =
       books = books_are last;
     }
 
-pub auction_meets : (words : Words) → MeetsLimits mix_one (auction words).0
+pub auction_meets : (words : Words) → MeetsLimits (auction words).0
+unfolding limits_of
 auction_meets words =
     let after = (for_each 5 1 (λ _. alone (amount 100 100)) words).1 in
     let last = (for_each 5 1 (λ _. alone (amount 0 100)) after).1 in
@@ -156,5 +162,5 @@ auction_meets words =
 pub auction_drawn : (w0 w1 w2 : Words) (goods : List (List ℕ)) (supply reserve : List ℤ) (bidders : Named)
     → goods ≡ good_names → supply ≡ (for_each 5 1 (λ _. alone (amount 100 100)) w0).0 → w1 ≡ (for_each 5 1 (λ _. alone (amount 100 100)) w0).1
     → reserve ≡ (for_each 5 1 (λ _. alone (amount 0 100)) w1).0 → w2 ≡ (for_each 5 1 (λ _. alone (amount 0 100)) w1).1 → bidders ≡ (for_each 40 1 bidder w2).0
-    → ◌≡◌ {A = AuctionText} (record { goods = goods; supply = supply; reserve = reserve; bidders = bidders }) (auction w0).0
+    → ◌≡◌ {A = AuctionText} (record { format = 1; goods = goods; supply = supply; reserve = reserve; bidders = bidders }) (auction w0).0
 auction_drawn w0 w1 w2 goods supply reserve bidders g s e r f b = rw (g, s, b, f, r, e) refl

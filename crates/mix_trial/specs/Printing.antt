@@ -1,13 +1,13 @@
 -- The text of an auction, row by row, the bids of each bidder together.
-use Rattle.std.specs.Prelude.{ℕ, List, [], ◌∷◌, ◌++◌, ℤ, Option, Some, None, map, codes}
+use Rattle.std.specs.Prelude.{ℕ, List, [], ◌∷◌, ◌++◌, ℤ, pos, Option, Some, None, map, codes}
 use Rattle.std.specs.Fmt.{signed_decimal}
 use Rattle.mix_bids.specs.declared.bid.Bid.{Bid}
 use Rattle.mix_text.specs.Auctions.{AuctionText}
 use Rattle.mix_text.specs.Bidders.{Named}
 
--- the first row
-abbrev pub head_row : List (List ℕ)
-head_row = codes "mix" ∷ codes "1" ∷ []
+-- the first row: `mix`, and the format
+abbrev pub head_row : ℕ → List (List ℕ)
+head_row format = codes "mix" ∷ signed_decimal (pos format) ∷ []
 
 -- the row of the goods
 abbrev pub goods_row : List (List ℕ) → List (List ℕ)
@@ -38,5 +38,5 @@ end_row = codes "end" ∷ []
 -- all rows
 abbrev pub auction_rows : AuctionText → List (List (List ℕ))
 auction_rows a =
-    head_row ∷ goods_row a.goods ∷ amounts_row (codes "supply") a.supply ∷ amounts_row (codes "reserve") a.reserve
+    head_row a.format ∷ goods_row a.goods ∷ amounts_row (codes "supply") a.supply ∷ amounts_row (codes "reserve") a.reserve
     ∷ (bidder_rows a.bidders ++ end_row ∷ [])

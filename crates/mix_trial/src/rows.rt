@@ -9,13 +9,13 @@ use mix_bids::Bid;
 use mix_num::Memory;
 use mix_text::{Auction, Name, Names, Page};
 
-/// Adds the first row.
-pub fn add_head(page: &mut Page) -> Result<(), Memory>
+/// Adds the first row, which names the format.
+pub fn add_head(page: &mut Page, format: u8) -> Result<(), Memory>
     requires { page.old.fields ≡ [] }
-    ensures { OnOk result (page.new ≡ record { ended = page.old.ended ++ line_of head_row; fields = [] }) }
+    ensures { OnOk result (page.new ≡ record { ended = page.old.ended ++ line_of (head_row format); fields = [] }) }
 {
     page.text(b"mix")?;
-    page.text(b"1")?;
+    page.number(i64::from(format))?;
     page.end_row()
 }
 

@@ -3,7 +3,6 @@ ghost use Rattle.std.specs.Prelude.{◌≡◌, All, IfOk};
 ghost use Rattle.mix_bids.specs.Convexity.{IsConvexList};
 ghost use Rattle.mix_text.specs.AuctionTexts.{auction_text};
 ghost use Rattle.mix_text.specs.Limits.{MeetsLimits};
-ghost use Rattle.mix_text.specs.Reading.{mix_one};
 ghost use Rattle.mix_trial.specs.Trials.{trial_auction, trial_words};
 
 use crate::bidders::draw_bidders;
@@ -19,11 +18,11 @@ use std::alloc::Global;
 ///
 /// Five goods, A to E, of each 100 to 199 units, with reserves from 0 to 99; forty bidders, B01 to B40, each with four
 /// blocks of four bids and sixteen single bids. In a block one bid of four is negative. Every list is convex, and the
-/// auction keeps to the limits of format `mix,1`.
+/// auction keeps to the limits of its format, which is 1.
 pub fn make(alloc: Global, seed: u64) -> Result<Auction, Memory>
     ensures text { IfOk result (λ auction. auction_text auction ≡ trial_auction (trial_words seed)) }
     ensures convex { IfOk result (λ auction. All (λ bidder. IsConvexList bidder.1.bids) auction.bidders) }
-    ensures limits { IfOk result (λ auction. MeetsLimits mix_one (auction_text auction)) }
+    ensures limits { IfOk result (λ auction. MeetsLimits (auction_text auction)) }
 {
     let mut words = Lcg64Xsh32::seed_from_u64(seed);
     let goods = good_names(alloc)?;
@@ -31,6 +30,7 @@ pub fn make(alloc: Global, seed: u64) -> Result<Auction, Memory>
     let reserve = draw_amounts(&mut words, 0, 100);
     let bidders = draw_bidders(alloc, &mut words)?;
     Ok(Auction {
+        format: 1,
         goods,
         supply,
         reserve,

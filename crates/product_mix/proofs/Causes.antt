@@ -368,15 +368,15 @@ some_bytes n = (replicate n 0, length-replicate n 0)
 
 -- a command, and such a text
 pub long_answered : (command : Command) (text : Option (List ℕ)) (P Q : Type 0) (taken now : Option (List ℕ)) (status : ℕ)
-    → IsLonger text 4194304 → IsWritten (record { status = 4; bytes = codes "limit,0,bytes\n" }) Q taken now status → IsAnswered (Some (OnText command)) text P Q taken now status
+    → IsLonger text 16777216 → IsWritten (record { status = 4; bytes = codes "limit,0,bytes\n" }) Q taken now status → IsAnswered (Some (OnText command)) text P Q taken now status
 long_answered command text P Q taken now status long w = record {
   output = too_long;
   wanted = record { unknown = tt; known = inr (given text long) };
   written = subst (λ (output : Output). IsWritten output Q taken now status) (sym long_text) w;
 }
   where
-    given : (text : Option (List ℕ)) → IsLonger text 4194304 → (bytes : List ℕ) × AreTold text bytes × IsOutput command bytes too_long
+    given : (text : Option (List ℕ)) → IsLonger text 16777216 → (bytes : List ℕ) × AreTold text bytes × IsOutput command bytes too_long
     given None l =
-        let some = some_bytes 4194305 in
+        let some = some_bytes 16777217 in
         (some.0, tt, inl (omega (arith, some.1), refl))
     given (Some bytes) l = (bytes, refl, inl (l, refl))

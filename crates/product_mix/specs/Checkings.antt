@@ -3,7 +3,7 @@ use Rattle.std.specs.Prelude.{◌≡◌, ◌<◌, ◌⊎◌, ℕ, length, List, 
 use Rattle.std.specs.Fmt.{signed_decimal}
 use Rattle.mix_text.specs.Auctions.{AuctionText}
 use Rattle.mix_text.specs.Bidders.{name_at}
-use Rattle.mix_text.specs.Reading.{◌>>=◌, mix_one, reading_of}
+use Rattle.mix_text.specs.Reading.{◌>>=◌, reading_of}
 use Rattle.mix_text.specs.Rows.{rows_of}
 use Rattle.mix_text.specs.declared.faults.TextError.{TextError}
 use Rattle.mix_text.specs.declared.faults.TextError.TheVariants as error
@@ -26,7 +26,7 @@ or_wrong (Err wrong.Memory) = Err error.Memory
 -- the auction of a text and the outcome after it, or what is wrong first
 unfoldable pub auction_and_outcome : List ℕ → Result (AuctionText × Outcome) TextError
 auction_and_outcome text =
-    reading_of mix_one (rows_of text) >>= λ read.
+    reading_of (rows_of text) >>= λ read.
     or_wrong (outcome_after read.0 read.1) >>= λ outcome.
     Ok (read.0, outcome)
 

@@ -35,7 +35,7 @@ limit_row limit = codes "limit" ∷ decimal limit.at ∷ what_word limit.what �
 
 -- how many bytes a text may have
 abbrev pub most_bytes : ℕ
-most_bytes = 4194304
+most_bytes = 16777216
 
 -- a text with more of them
 abbrev pub too_long : Output

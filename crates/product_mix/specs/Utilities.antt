@@ -4,7 +4,7 @@ use Rattle.std.specs.Fmt.{signed_decimal}
 use Rattle.mix_num.specs.Vectors.{with_null}
 use Rattle.mix_bids.specs.Bids.{Book, utility}
 use Rattle.mix_text.specs.Pages.{line_of, printed}
-use Rattle.mix_text.specs.Reading.{◌>>=◌, mix_one, prices_after, reading_of}
+use Rattle.mix_text.specs.Reading.{◌>>=◌, prices_after, reading_of}
 use Rattle.mix_text.specs.Rows.{rows_of}
 use Rattle.mix_text.specs.declared.faults.TextError.{TextError}
 use Rattle.product_mix.specs.Readings.{or_fault}
@@ -20,6 +20,6 @@ utility_page bidders prices = printed (map (utility_row prices) bidders) ++ line
 -- what is printed for a text: that of its auction and of the one row of prices after it, or what is wrong first
 unfoldable pub utility_text : List ℕ → Result (List ℕ) TextError
 utility_text text =
-    reading_of mix_one (rows_of text) >>= λ read.
+    reading_of (rows_of text) >>= λ read.
     or_fault (prices_after (length read.0.goods) read.1) >>= λ prices.
     Ok (utility_page read.0.bidders prices)

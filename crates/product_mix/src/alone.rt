@@ -11,7 +11,7 @@ use std::alloc::Global;
 /// answer.
 #[tactic(auto, unfolding(crate::specs::Readings::auction_alone))]
 pub fn read_alone(alloc: Global, text: &[u8]) -> Result<Auction, TextError>
-    requires { length text.now ≤ 4194304 }
+    requires { length text.now ≤ 16777216 }
     ensures read { IfOk result (λ auction. auction_alone text.now ≡ Ok (auction_text auction)) }
     ensures wrong { IfErr result (λ e. IsFromText (auction_alone text.now) e) }
 {

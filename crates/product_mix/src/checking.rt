@@ -60,11 +60,11 @@ fn checked(alloc: Global, auction: &Auction, outcome: &Outcome) -> Result<Reply,
 /// Reads an auction and the outcome after it, and prints with status 0 `yes` where the outcome is true, else with status 1
 /// `no` and the first reason why it isn't.
 ///
-/// The error is what is wrong first with the text, which has at most 4,194,304 bytes; `Memory` may come in place of any
+/// The error is what is wrong first with the text, which has at most 16,777,216 bytes; `Memory` may come in place of any
 /// answer.
 #[tactic(auto, unfolding(crate::specs::Checkings::auction_and_outcome))]
 pub fn print_check(alloc: Global, text: &[u8]) -> Result<Reply, TextError>
-    requires { length text.now ≤ 4194304 }
+    requires { length text.now ≤ 16777216 }
     ensures done { IfOk result (λ reply. IsCheckingOf text.now (output_of reply)) }
     ensures status { IfOk result (λ reply. reply.status < 2) }
     ensures wrong { IfErr result (λ e. IsFromText (auction_and_outcome text.now) e) }

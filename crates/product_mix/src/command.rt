@@ -25,7 +25,7 @@ use mix_text::TextError;
 use std::alloc::Global;
 
 // How many bytes a text may have.
-const MOST_BYTES: usize = 4_194_304;
+const MOST_BYTES: usize = 16_777_216;
 
 const DONE: u8 = 0;
 
@@ -54,7 +54,7 @@ fn write_out<K: Sink>(output: &mut K, status: u8, text: &[u8]) -> u8
 
 // Does the command on a text, and prints what comes of it; the error is what is wrong first with the text.
 fn done(alloc: Global, command: Command, text: &[u8]) -> Result<Reply, TextError>
-    requires { length text.now ≤ 4194304 }
+    requires { length text.now ≤ 16777216 }
     ensures done { IfOk result (λ reply. IsDone command text.now (output_of reply)) }
     ensures status { IfOk result (λ reply. reply.status < 2) }
     ensures wrong { IfErr result (λ e. (e ≡ TextError.Memory) ⊎ IsWrong command text.now e) }
@@ -77,7 +77,7 @@ fn done(alloc: Global, command: Command, text: &[u8]) -> Result<Reply, TextError
 
 // The reply of the command to a text.
 fn reply(alloc: Global, command: Command, text: &[u8]) -> Result<Reply, Memory>
-    requires { length text.now ≤ 4194304 }
+    requires { length text.now ≤ 16777216 }
     ensures output { IfOk result (λ reply. IsOutput command text.now (output_of reply)) }
     ensures status { IfOk result (λ reply. (reply.status < 5) × (reply.status ≢ 2)) }
 {
@@ -89,7 +89,7 @@ fn reply(alloc: Global, command: Command, text: &[u8]) -> Result<Reply, Memory>
 
 // Writes the reply of the command to a text.
 fn reply_out<K: Sink>(alloc: Global, command: Command, text: &[u8], output: &mut K) -> u8
-    requires { length text.now ≤ 4194304 }
+    requires { length text.now ≤ 16777216 }
     ensures written { result ≢ 7 → WritesFor command text.now (Rose (K.faults output.old) (K.faults output.new)) (K.taken output.old) (K.taken output.new) result }
     ensures memory { result ≡ 7 → Keeps (K.taken output.old) (K.taken output.new) }
     ensures range { ((result < 5) × (result ≢ 2)) ⊎ (result ≡ 6) ⊎ (result ≡ 7) }
@@ -131,8 +131,8 @@ fn perform_on_text<I: Source, K: Sink>(
     ensures quiet_output { result ≢ 6 → K.faults output.new ≡ K.faults output.old }
     ensures quiet_input { result ≢ 5 → result ≢ 6 → I.faults input.new ≡ I.faults input.old }
     ensures at_end { (result ≡ 0) ⊎ (result ≡ 1) ⊎ (result ≡ 3) → IsAtEnd (I.left input.new) }
-    ensures at_end_or_long { result ≡ 4 → IsAtEnd (I.left input.new) ⊎ IsLonger (I.left input.old) 4194304 }
-    ensures taken { TakesAtMost 4194305 (I.left input.old) (I.left input.new) }
+    ensures at_end_or_long { result ≡ 4 → IsAtEnd (I.left input.new) ⊎ IsLonger (I.left input.old) 16777216 }
+    ensures taken { TakesAtMost 16777217 (I.left input.old) (I.left input.new) }
 {
     match read_all(alloc, input, MOST_BYTES) {
         Ok(text) => reply_out(alloc, command, &text, output),
@@ -160,8 +160,8 @@ fn perform<I: Source, K: Sink>(
     ensures quiet_output { result ≢ 6 → K.faults output.new ≡ K.faults output.old }
     ensures quiet_input { result ≢ 5 → result ≢ 6 → I.faults input.new ≡ I.faults input.old }
     ensures at_end { Reads task → (result ≡ 0) ⊎ (result ≡ 1) ⊎ (result ≡ 3) → IsAtEnd (I.left input.new) }
-    ensures at_end_or_long { Reads task → result ≡ 4 → IsAtEnd (I.left input.new) ⊎ IsLonger (I.left input.old) 4194304 }
-    ensures taken { TakesAtMost 4194305 (I.left input.old) (I.left input.new) }
+    ensures at_end_or_long { Reads task → result ≡ 4 → IsAtEnd (I.left input.new) ⊎ IsLonger (I.left input.old) 16777216 }
+    ensures taken { TakesAtMost 16777217 (I.left input.old) (I.left input.new) }
     ensures untouched { ¬ Reads task → input.new ≡ input.old }
 {
     match task {
@@ -176,7 +176,7 @@ fn perform<I: Source, K: Sink>(
 /// 0: it was done. 1: it needs lists that are convex over all rational prices, and some bidder's list isn't; or it
 /// checks an outcome, and that isn't true. 2: the
 /// words ask for nothing that is known; then nothing is read, and no memory taken. 3: the text has a fault. 4: it passes a limit, or has
-/// more than 4,194,304 bytes. 5: a read failed. 6: a write failed, and a prefix of the text was written. 7: memory was
+/// more than 16,777,216 bytes. 5: a read failed. 6: a write failed, and a prefix of the text was written. 7: memory was
 /// wanting, and nothing was written. With every other status the whole text was written.
 #[tactic(auto, using(crate::proofs::Causes::met_cause, crate::proofs::Causes::unmet_cause, crate::proofs::Causes::fault_cause, crate::proofs::Causes::limit_cause, crate::proofs::Causes::no_failure, crate::proofs::Causes::met_shown, crate::proofs::Causes::unmet_shown, crate::proofs::Causes::fault_shown, crate::proofs::Causes::limit_shown))]
 pub fn run<I: Source, K: Sink>(alloc: Global, words: &[String], input: &mut I, output: &mut K) -> u8
@@ -208,9 +208,9 @@ pub fn run<I: Source, K: Sink>(alloc: Global, words: &[String], input: &mut I, o
     ensures quiet_input { result ≢ 5 → result ≢ 6 → I.faults input.new ≡ I.faults input.old }
 
     // What is taken and what is left of the input.
-    ensures taken { TakesAtMost 4194305 (I.left input.old) (I.left input.new) }
+    ensures taken { TakesAtMost 16777217 (I.left input.old) (I.left input.new) }
     ensures at_end { Reads (task_of (map (λ w. string_bytes w) words.now)) → (result ≡ 0) ⊎ (result ≡ 1) ⊎ (result ≡ 3) → IsAtEnd (I.left input.new) }
-    ensures at_end_or_long { Reads (task_of (map (λ w. string_bytes w) words.now)) → result ≡ 4 → IsAtEnd (I.left input.new) ⊎ IsLonger (I.left input.old) 4194304 }
+    ensures at_end_or_long { Reads (task_of (map (λ w. string_bytes w) words.now)) → result ≡ 4 → IsAtEnd (I.left input.new) ⊎ IsLonger (I.left input.old) 16777216 }
     ensures untouched { ¬ Reads (task_of (map (λ w. string_bytes w) words.now)) → input.new ≡ input.old }
 {
     perform(alloc, Task::asked_by(words), input, output)

@@ -74,7 +74,7 @@ fn a_source_without_end_is_stopped(rt: HostRuntime) -> Result<(), Fail> {
         let status = run(alloc, &words, &mut input, &mut output);
         assert_eq!(rt; status, 4, "{word}");
         assert_eq!(rt; output.bytes(), b"limit,0,bytes\n".as_slice());
-        assert_eq!(rt; input.0, 4_194_305, "{word}");
+        assert_eq!(rt; input.0, 16_777_217, "{word}");
     }
     Ok(())
 }

@@ -9,6 +9,8 @@ mod counted_tests;
 #[cfg(test)]
 mod device_tests;
 #[cfg(test)]
+mod format_tests;
+#[cfg(test)]
 mod outcome_tests;
 mod prices;
 mod reasons;

@@ -1,5 +1,5 @@
 // Every command on auctions at the greatest sizes: none of them gives up there, where memory is ample.
-use crate::tests::{call, text_of};
+use crate::tests::{call, call_at_once, text_of};
 use std::alloc::Global;
 use std::test::Fail;
 
@@ -51,6 +51,55 @@ fn many_bidders(alloc: Global) -> Result<Vec<u8>, Fail> {
     Ok(text)
 }
 
+const EIGHT_GOODS: &[u8] =
+    b"mix,2\ngoods,A,B,C,D,E,F,G,H\nsupply,30,30,30,30,30,30,30,30\nreserve,0,0,0,0,0,0,0,0\n";
+
+// One bidder with a hundred bids of negative weight, each in a block of four bids that is convex by itself.
+fn many_negatives(alloc: Global) -> Result<Vec<u8>, Fail> {
+    let mut text = EIGHT_GOODS.to_vec(alloc)?;
+    for number in 100..200_u32 {
+        let block = format!(in alloc; "bid,P,1,{number}0,-,-,-,-,-,-,-\nbid,P,1,-,-,-,{number}1,-,-,-,-\nbid,P,1,{number}5,-,-,{number}6,-,-,-,-\nbid,P,-1,{number}0,-,-,{number}1,-,-,-,-\n")?;
+        text.extend_from_slice(block.as_bytes())?;
+    }
+    text.extend_from_slice(b"end\n")?;
+    Ok(text)
+}
+
+// Bids of 256 bidders, each for one unit of any of eight goods.
+fn more_bidders(alloc: Global) -> Result<Vec<u8>, Fail> {
+    let mut text = EIGHT_GOODS.to_vec(alloc)?;
+    for number in 0..256_u32 {
+        let bid = format!(in alloc; "bid,B{number},1,{number},{number},{number},{number},{number},{number},{number},{number}\n")?;
+        text.extend_from_slice(bid.as_bytes())?;
+    }
+    text.extend_from_slice(b"end\n")?;
+    Ok(text)
+}
+
+#[test]
+fn many_negative_bids(rt: HostRuntime) -> Result<(), Fail> {
+    let alloc = rt.alloc();
+    let negatives = many_negatives(alloc)?;
+    assert!(rt; all_done(alloc, &negatives, b"price,1,2,3,4,5,6,7,8\n")?);
+    Ok(())
+}
+
+#[test]
+fn many_bids_for_eight_goods(rt: HostRuntime) -> Result<(), Fail> {
+    let alloc = rt.alloc();
+    let bids = text_of(alloc, EIGHT_GOODS, b"bid,P,1,9,8,7,6,5,4,3,2\n", 400, b"end\n")?;
+    assert!(rt; all_done(alloc, &bids, b"price,1,2,3,4,5,6,7,8\n")?);
+    Ok(())
+}
+
+#[test]
+fn many_bidders_for_eight_goods(rt: HostRuntime) -> Result<(), Fail> {
+    let alloc = rt.alloc();
+    let bidders = more_bidders(alloc)?;
+    assert!(rt; done(alloc, "prices", &bidders, b"")?.is_some());
+    Ok(())
+}
+
 #[test]
 fn the_greatest_sizes(rt: HostRuntime) -> Result<(), Fail> {
     let alloc = rt.alloc();
@@ -60,13 +109,18 @@ fn the_greatest_sizes(rt: HostRuntime) -> Result<(), Fail> {
     assert!(rt; all_done(alloc, &bids, b"price,1,2,3,4,5\n")?);
     let bidders = many_bidders(alloc)?;
     assert!(rt; all_done(alloc, &bidders, b"price,1\n")?);
-    let long = text_of(
-        alloc,
-        b"mix,1\ngoods,A\nsupply,1\nreserve,0\nbid,P,1,5\n",
-        b"\n",
-        4_194_000,
-        b"end\n",
-    )?;
-    assert!(rt; all_done(alloc, &long, b"price,1\n")?);
+    Ok(())
+}
+
+// As many bytes as a text may have; all after the last row are blank lines.
+#[test]
+fn the_longest_text(rt: HostRuntime) -> Result<(), Fail> {
+    let alloc = rt.alloc();
+    let mut text = vec![in alloc; b'\n'; 16_777_216]?;
+    let rows = b"mix,1\ngoods,A\nsupply,1\nreserve,0\nbid,P,1,5\nend\n";
+    text[..rows.len()].copy_from_slice(rows);
+    let (status, sink) = call_at_once(alloc, "prices", text)?;
+    assert_eq!(rt; status, 0);
+    assert_eq!(rt; sink.bytes(), b"price,0\nend\n".as_slice());
     Ok(())
 }

@@ -59,6 +59,15 @@ pub fn call(
     Ok((status, output))
 }
 
+// A call with one word, from a source of great pieces.
+pub fn call_at_once(alloc: Global, word: &str, text: Vec<u8>) -> Result<(u8, MemorySink), Fail> {
+    let named = words_of(alloc, &[word])?;
+    let mut input = MemorySource::new(text, 1_048_576, Vec::new(alloc));
+    let mut output = MemorySink::new(alloc, 64, 8, Vec::new(alloc))?;
+    let status = run(alloc, &named, &mut input, &mut output);
+    Ok((status, output))
+}
+
 // Whether a call with one word on the text ends with the status and writes exactly this.
 pub fn gives(
     alloc: Global,
@@ -117,7 +126,7 @@ fn utilities_and_faults(rt: HostRuntime) -> Result<(), Fail> {
 #[test]
 fn limits(rt: HostRuntime) -> Result<(), Fail> {
     let alloc = rt.alloc();
-    let cases: [(&[u8], &[u8], usize, &[u8], u8, &[u8]); 5] = [
+    let cases: [(&[u8], &[u8], usize, &[u8], u8, &[u8]); 3] = [
         (
             ONE_GOOD,
             b"bid,P,1,5\n",
@@ -142,12 +151,27 @@ fn limits(rt: HostRuntime) -> Result<(), Fail> {
             4,
             b"limit,17,negatives\n",
         ),
-        (b"", b"\n", 4_194_304, b"", 3, b"fault,1,end\n"),
-        (b"", b"\n", 4_194_305, b"", 4, b"limit,0,bytes\n"),
     ];
     for (front, line, count, tail, status, output) in cases {
         let text = text_of(alloc, front, line, count, tail)?;
         let (answer, sink) = call(alloc, &["utility"], text, Vec::new(alloc), 64)?;
+        assert_eq!(rt; answer, status);
+        assert_eq!(rt; sink.bytes(), output);
+    }
+    Ok(())
+}
+
+// As many line feeds as a text may have bytes, and one more.
+#[test]
+fn bytes(rt: HostRuntime) -> Result<(), Fail> {
+    let alloc = rt.alloc();
+    let cases: [(usize, u8, &[u8]); 2] = [
+        (16_777_216, 3, b"fault,1,end\n"),
+        (16_777_217, 4, b"limit,0,bytes\n"),
+    ];
+    for (count, status, output) in cases {
+        let text = vec![in alloc; b'\n'; count]?;
+        let (answer, sink) = call_at_once(alloc, "utility", text)?;
         assert_eq!(rt; answer, status);
         assert_eq!(rt; sink.bytes(), output);
     }

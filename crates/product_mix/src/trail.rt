@@ -63,10 +63,10 @@ fn trailed(alloc: Global, auction: &Auction) -> Result<Reply, Memory>
 /// Reads an auction that nothing follows, and prints with status 0 the long steps from its reserves and the prices at their
 /// end where every list is convex, else with status 1 a refusal of the first bidder whose list isn't.
 ///
-/// The error is what is wrong first with the text, which has at most 4,194,304 bytes; `Memory` may come in place of any
+/// The error is what is wrong first with the text, which has at most 16,777,216 bytes; `Memory` may come in place of any
 /// answer.
 pub fn print_trail(alloc: Global, text: &[u8]) -> Result<Reply, TextError>
-    requires { length text.now ≤ 4194304 }
+    requires { length text.now ≤ 16777216 }
     ensures done { IfOk result (λ reply. IsTrailingOf text.now (output_of reply)) }
     ensures status { IfOk result (λ reply. reply.status < 2) }
     ensures wrong { IfErr result (λ e. IsFromText (auction_alone text.now) e) }

@@ -38,11 +38,11 @@ fn utilities(alloc: Global, auction: &Auction, prices: &Prices) -> Result<Vec<u8
 
 /// Reads an auction and the one row of prices after it, and prints each bidder's indirect utility at these prices.
 ///
-/// The error is what is wrong first with the text, which has at most 4,194,304 bytes; `Memory` may come in place of any
+/// The error is what is wrong first with the text, which has at most 16,777,216 bytes; `Memory` may come in place of any
 /// answer.
 #[tactic(auto, unfolding(crate::specs::Utilities::utility_text))]
 pub fn print_utilities(alloc: Global, text: &[u8]) -> Result<Vec<u8>, TextError>
-    requires { length text.now ≤ 4194304 }
+    requires { length text.now ≤ 16777216 }
     ensures read { IfOk result (λ bytes. utility_text text.now ≡ Ok bytes.items) }
     ensures wrong { IfErr result (λ e. IsFromText (utility_text text.now) e) }
 {

@@ -123,5 +123,6 @@ pub fn word_of_limit(what: What) -> &'static [u8]
         What::Bidders => b"bidders",
         What::Bids => b"bids",
         What::Negatives => b"negatives",
+        What::Cells => b"cells",
     }
 }

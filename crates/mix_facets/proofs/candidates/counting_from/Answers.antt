@@ -1,6 +1,6 @@
 use Rattle.std.proofs.Common.{◌≡◌, pos, ◌+ℤ◌, arith, sym, ap, ◌∙◌, length, refl, Some, to_z, of_z, w64}
 use Rattle.std.proofs.lemmas.Int.{ints}
-use Rattle.mix_facets.specs.Leads.{negative_lead}
+use Rattle.mix_bids.specs.Leads.{negative_lead}
 use Rattle.mix_facets.proofs.NullLeads.{null_lead}
 use Rattle.mix_facets.proofs.candidates.counting_from.Goals as goal
 

@@ -1,7 +1,7 @@
 use Rattle.std.proofs.Common.{◌≡◌, ◌+ℤ◌, pos, arith, ap, ap₂, ◌∙◌, refl, Some, to_z, of_z, w64}
 use Rattle.std.proofs.lemmas.Int.{ints}
-use Rattle.mix_facets.specs.Leads.{lead_of}
-use Rattle.mix_facets.specs.Points.{other}
+use Rattle.mix_bids.specs.Leads.{lead_of}
+use Rattle.mix_bids.specs.Levels.{other}
 use Rattle.mix_facets.specs.Cells.{first_place as first_place_of, leads}
 use Rattle.mix_facets.proofs.FirstPlaces.{first_above_at}
 use Rattle.mix_facets.proofs.cells.first_place.Goals as goal

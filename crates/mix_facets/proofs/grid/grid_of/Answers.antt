@@ -1,7 +1,7 @@
 use Rattle.std.proofs.Common.{◌≡◌, ℕ, arith, ap, ap₂, subst, ◌∙◌, ◌++◌, ◌∷◌, [], List, ℤ, length, length-append}
 use Rattle.mix_bids.specs.Bids.{AreBids}
 use Rattle.mix_bids.proofs.Lengths.{over_of}
-use Rattle.mix_facets.specs.Points.{other}
+use Rattle.mix_bids.specs.Levels.{other}
 use Rattle.mix_facets.specs.Grids.{AreCandidates, IsGridOf}
 use Rattle.mix_facets.proofs.Steps.{entries_step}
 use Rattle.mix_facets.proofs.Leasts.{some_less, grid_points}

@@ -1,5 +1,5 @@
 use Rattle.std.proofs.Common.{◌≡◌, ◌<◌, ℕ, [], length, get_or}
-use Rattle.mix_facets.specs.Points.{other}
+use Rattle.mix_bids.specs.Levels.{other}
 use Rattle.mix_facets.specs.Grids.{AreCandidates}
 use Rattle.mix_facets.proofs.grid.grid_of.Given as goal
 

@@ -1,7 +1,7 @@
 use Rattle.std.proofs.Common.{List}
 use Rattle.mix_num.specs.Ranges.{Lies}
 use Rattle.mix_bids.specs.declared.bid.Bid.{Bid}
-use Rattle.mix_facets.specs.Leads.{negative_lead}
+use Rattle.mix_bids.specs.Leads.{negative_lead}
 use Rattle.std.proofs.Common.{subst, arith}
 use Rattle.mix_facets.proofs.Steps.{AreImages, images_step, images_end, All-added}
 use Rattle.mix_facets.proofs.levels.differences_of.Goals as goal

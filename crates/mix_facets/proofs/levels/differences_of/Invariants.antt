@@ -1,6 +1,6 @@
 use Rattle.std.proofs.Common.{take, All}
 use Rattle.mix_num.specs.Ranges.{Lies}
-use Rattle.mix_facets.specs.Leads.{negative_lead}
+use Rattle.mix_bids.specs.Leads.{negative_lead}
 use Rattle.mix_facets.proofs.Steps.{AreImages}
 use Rattle.mix_facets.proofs.levels.differences_of.Given as goal
 

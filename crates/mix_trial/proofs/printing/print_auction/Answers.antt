@@ -1,10 +1,11 @@
 use Rattle.std.proofs.Common.{◌≡◌, ◌+◌, ℕ, List, [], Ok, IfOk, length, rules, subst}
+use Rattle.std.proofs.lemmas.Result.{IfOk-weaker}
 use Rattle.mix_text.specs.AuctionTexts.{auction_text}
 use Rattle.mix_text.specs.Pages.{printed}
-use Rattle.mix_text.specs.Reading.{mix_one, reading_of}
+use Rattle.mix_text.specs.Reading.{reading_of}
 use Rattle.mix_text.specs.Rows.{rows_of}
 use Rattle.mix_trial.specs.Printing.{auction_rows}
-use Rattle.mix_trial.proofs.PrintedAuctions.{auction_pages, if_ok}
+use Rattle.mix_trial.proofs.PrintedAuctions.{auction_pages}
 use Rattle.mix_trial.proofs.ReadAuctions.{reading_text}
 use Rattle.mix_trial.proofs.printing.print_auction.Goals as goal
 
@@ -19,5 +20,5 @@ returns-clause-text c =
 pub returns-clause-read : goal.returns-clause-read
 returns-clause-read c =
     let a = auction_text c.args.auction.now in
-    if_ok (λ bytes. bytes.items ≡ printed (auction_rows a)) (λ bytes. reading_of mix_one (rows_of bytes.items) ≡ Ok (a, record { rows = []; next = length (auction_rows a) + 1 })) c.finish.result
-    (λ bytes text. reading_text mix_one a bytes.items c.args.auction.now.sound c.requires text) (returns-clause-text c)
+    IfOk-weaker c.finish.result (λ bytes. bytes.items ≡ printed (auction_rows a)) (λ bytes. reading_of (rows_of bytes.items) ≡ Ok (a, record { rows = []; next = length (auction_rows a) + 1 }))
+    (λ bytes text. reading_text a bytes.items c.args.auction.now.sound c.requires text) (returns-clause-text c)

@@ -4,7 +4,6 @@ use Rattle.mix_bids.specs.Convexity.{IsConvexList}
 use Rattle.mix_text.specs.Auctions.{IsAuction}
 use Rattle.mix_text.specs.Bidders.{Named}
 use Rattle.mix_text.specs.Limits.{MeetsLimits}
-use Rattle.mix_text.specs.Reading.{mix_one}
 use Rattle.mix_trial.specs.Trials.{auction}
 use Rattle.mix_trial.specs.Words.{words_of}
 use Rattle.mix_trial.proofs.ConvexTrials.{bidders_convex}
@@ -31,4 +30,4 @@ pub returns-clause-limits : goal.returns-clause-limits
 returns-clause-limits c =
     let w = words_of c.seed_from_u64-words.result in
     let same = auction_drawn w _ _ _ _ _ _ c.in_ok-goods.ensures c.draw_amounts-supply.ensures.value c.draw_amounts-supply.ensures.rest c.draw_amounts-reserve.ensures.value c.draw_amounts-reserve.ensures.rest c.in_ok-bidders.ensures.value in
-    subst (MeetsLimits mix_one) (sym same) (auction_meets w)
+    subst MeetsLimits (sym same) (auction_meets w)

@@ -1,6 +1,8 @@
-use Rattle.std.proofs.Common.{arith, ℕ, length, ap, subst, sym, ◌∷◌, [], length-append}
+use Rattle.std.proofs.Common.{arith, ℕ, length, ap, subst, sym, ◌∙◌, List, ◌∷◌, [], ◌++◌, min, length-append}
 use Rattle.std.proofs.lemmas.List.Elements.{All-push, All-same}
 use Rattle.mix_bids.specs.Bids.{IsBid}
+use Rattle.mix_bids.specs.Cells.{cells}
+use Rattle.mix_bids.specs.declared.bid.Bid.{Bid}
 use Rattle.mix_bids.proofs.list.BidList.push.Goals as goal
 
 pub invariant_of-self-2 : goal.invariant_of-self-2
@@ -14,4 +16,5 @@ invariant_of-self-2 c =
       i.1,
       omega (arith, ap length e, length-append c.self.inside.bids.items (c.args.bid ∷ []), ap (λ z. length z.bids) v),
       All-same (IsBid n) _ _ e (All-push (IsBid n) _ _ i.3 (subst (λ (g : ℕ). IsBid g c.args.bid) (sym (ap (λ z. z.goods) v)) c.requires.bid)),
+      c.cells_with-cells.ensures ∙ ap (λ (bs : List Bid). min (cells (record { goods = n; bids = bs })) 4194305) (ap (λ xs. xs ++ c.args.bid ∷ []) c.deref.ensures.value ∙ sym e),
     )

@@ -1,5 +1,5 @@
 use Rattle.std.proofs.Common.{arith, ap, length}
-use Rattle.mix_facets.specs.Planes.{has_lead}
+use Rattle.mix_bids.specs.Levels.{has_lead}
 use Rattle.mix_facets.proofs.Places.{length-places, length-kept}
 use Rattle.mix_facets.proofs.level.Level.count.Goals as goal
 

@@ -1,7 +1,7 @@
 use Rattle.std.proofs.Common.{arith, ap₂, ap, ◌∙◌, ◌≡◌, sym, Some, ◌-ℤ◌, to_z, of_z, w64}
 use Rattle.std.proofs.lemmas.Int.{ints}
-use Rattle.mix_facets.specs.Leads.{lead as lead_between}
-use Rattle.mix_facets.proofs.lead.margin.Goals as goal
+use Rattle.mix_bids.specs.Leads.{lead as lead_between}
+use Rattle.mix_bids.proofs.leads.margin.Goals as goal
 
 pub overflow_sub-result : goal.overflow_sub-result
 overflow_sub-result c =
