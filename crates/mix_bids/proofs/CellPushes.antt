@@ -174,3 +174,12 @@ cells_grow n bs b =
     sum_more (suc n) _ _ (λ j l. sum_le j _ _ (λ i k. pair_rises n i j bs b))
     ∙ ap (λ z. cells (record { goods = n; bids = bs }) + z) (sum_same (suc n) _ _ (λ j l.
     let e = sum_more j (λ i. pair_cells n bs i j) (λ i. pair_cells n (bs ++ b ∷ []) i j) (λ i k. pair_rises n i j bs b) in omega (arith, e)))
+
+-- a product, its first factor apart
+pub product_front : (m : ℕ) (f : ℕ → ℕ) → product_below (suc m) f ≡ f 0 * product_below m (λ k. f (suc k))
+unfolding product_below
+product_front zero f = omega arith
+product_front (suc m) f = ap (λ z. z * f (suc m)) (product_front m f) ∙ mul_assoc (f 0) (product_below m (λ k. f (suc k))) (f (suc m))
+  where
+    mul_assoc : (a b c : ℕ) → (a * b) * c ≡ a * (b * c)
+    mul_assoc a b c = omega arith

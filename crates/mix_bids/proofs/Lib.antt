@@ -20,6 +20,7 @@ pub mod Near
 pub mod Pairs
 pub mod Powers
 pub mod Products
+pub mod SameNumbers
 pub mod Sets
 pub mod Tallies
 pub mod Uniques

@@ -1,5 +1,5 @@
 // Bids and a list with a negative bid, worked out by hand.
-ghost use Rattle.std.specs.Prelude.{◌≡◌, ◌<◌, ◌∷◌, [], suc, length, IfOk, OnOk};
+ghost use Rattle.std.specs.Prelude.{◌≡◌, ◌<◌, ◌∷◌, [], suc, pos, neg_ℤ, length, Some, IfOk, OnOk};
 ghost use Rattle.mix_num.specs.Ranges.{ArePrices, Lies};
 ghost use Rattle.mix_bids.specs.Bids.{IsBid};
 
@@ -28,6 +28,44 @@ fn bid(weight: i64, first: Option<i64>, second: Option<i64>) -> Bid
     values.push(first);
     values.push(second);
     Bid { weight, values }
+}
+
+/// A bid over three goods.
+fn bid_of_three(weight: i64, first: i64, second: i64, third: i64) -> Bid
+    ensures { result ≡ record { weight = weight; values = record { items = Some first ∷ Some second ∷ Some third ∷ [] } } }
+{
+    let mut values = Values::new();
+    values.push(Some(first));
+    values.push(Some(second));
+    values.push(Some(third));
+    Bid { weight, values }
+}
+
+/// A bid of weight -1 over eight goods: `first` for the first and `other` for each other one.
+fn bid_of_eight(first: i64, other: i64) -> Bid
+    ensures { result ≡ record { weight = neg_ℤ (pos 1); values = record { items = Some first ∷ Some other ∷ Some other ∷ Some other ∷ Some other ∷ Some other ∷ Some other ∷ Some other ∷ [] } } }
+{
+    let mut values = Values::new();
+    values.push(Some(first));
+    values.push(Some(other));
+    values.push(Some(other));
+    values.push(Some(other));
+    values.push(Some(other));
+    values.push(Some(other));
+    values.push(Some(other));
+    values.push(Some(other));
+    Bid { weight: -1, values }
+}
+
+/// Adds a bid, and tells the number of cells then.
+fn cells_with(list: &mut BidList, bid: Bid) -> Result<u64, Memory>
+    requires bid { IsBid list.old.goods bid }
+    requires room { length list.old.bids < 400 }
+    ensures goods { OnOk result (list.new.goods ≡ list.old.goods) }
+    ensures size { OnOk result (length list.new.bids ≡ suc (length list.old.bids)) }
+{
+    list.push(bid)?;
+    Ok(list.cells())
 }
 
 /// Adds a bid to a list over two goods.
@@ -107,5 +145,50 @@ fn best_weights(rt: HostRuntime) -> Result<(), Fail> {
         let expected = if bits == 0b011 || bits == 0b100 { 1 } else { 0 };
         assert_eq!(rt; weights.at(Set::from_bits(bits)), expected);
     }
+    Ok(())
+}
+
+#[test]
+fn cells_of_two_goods(rt: HostRuntime) -> Result<(), Fail> {
+    let mut list = BidList::new(rt.alloc(), 2);
+    assert_eq!(rt; list.cells(), 0);
+    // Of nothing and either good one lead of the other and one more, and of the two goods one lead of nothing.
+    assert_eq!(rt; cells_with(&mut list, bid(-1, Some(4), Some(4)))?, 2 + 2 + 1);
+    // A bid of positive weight counts in none.
+    assert_eq!(rt; cells_with(&mut list, bid(1, Some(6), Some(6)))?, 5);
+    // One level of nothing and the first good, two of either other pair.
+    assert_eq!(rt; cells_with(&mut list, bid(-1, Some(4), Some(7)))?, 3 + (2 + 2) + (1 + 1));
+    // The same leads again.
+    assert_eq!(rt; cells_with(&mut list, bid(-2, Some(4), Some(7)))?, 9);
+    // What isn't offered has no lead: in a level that is there, and in a new one.
+    assert_eq!(rt; cells_with(&mut list, bid(-1, Some(4), None))?, 9);
+    assert_eq!(rt; cells_with(&mut list, bid(-1, Some(5), None))?, 10);
+    assert_eq!(rt; list.copy(rt.alloc())?.cells(), 10);
+    Ok(())
+}
+
+#[test]
+fn cells_of_three_goods(rt: HostRuntime) -> Result<(), Fail> {
+    let mut list = BidList::new(rt.alloc(), 3);
+    assert_eq!(rt; cells_with(&mut list, bid_of_three(-1, 3, 5, 9))?, 3 * (2 * 2) + 3 * (1 * 2));
+    // They share the levels of nothing and the third good, and of the first two.
+    assert_eq!(rt; cells_with(&mut list, bid_of_three(-1, 4, 6, 9))?, 8 + 8 + 3 * 3 + 2 * 3 + 4 + 4);
+    Ok(())
+}
+
+#[test]
+fn cells_of_eight_goods(rt: HostRuntime) -> Result<(), Fail> {
+    let mut list = BidList::new(rt.alloc(), 8);
+    cells_with(&mut list, bid_of_eight(5, 1))?;
+    cells_with(&mut list, bid_of_eight(5, 2))?;
+    cells_with(&mut list, bid_of_eight(5, 3))?;
+    cells_with(&mut list, bid_of_eight(5, 4))?;
+    cells_with(&mut list, bid_of_eight(5, 5))?;
+    cells_with(&mut list, bid_of_eight(5, 6))?;
+    // 8^7 of nothing and the first good, 7 * 7 * 2^7 of nothing and another, 7 * 7 * 2^6 of the first and another, 21 * 7 * 8 * 2^5 of two others.
+    assert_eq!(rt; cells_with(&mut list, bid_of_eight(5, 7))?, 2_144_192);
+    // 9^7 of nothing and the first good alone pass the limit.
+    assert_eq!(rt; cells_with(&mut list, bid_of_eight(5, 8))?, 4_194_305);
+    assert_eq!(rt; cells_with(&mut list, bid_of_eight(6, 8))?, 4_194_305);
     Ok(())
 }

@@ -23,3 +23,4 @@ pub mod LevelLists
 pub mod CandidateLists
 pub mod Sizes
 pub mod Conclusions
+pub mod GridSizes

@@ -46,7 +46,7 @@ least_bound i c (a ∷ bs) o b v (inl q) e = least_stays i c bs (lesser o (lead_
 least_bound i c (a ∷ bs) o b v (inr k) e = least_bound i c bs (lesser o (lead_of a c i)) b v k e
 
 -- no bid that offers the choice leads by less than the lowest coordinate
-lowest_bound : (i c : ℕ) (bs : List Bid) (b : Bid) (v : ℤ) → In b bs → lead_of b c i ≡ Some v → lowest i c bs ≤ℤ v
+pub lowest_bound : (i c : ℕ) (bs : List Bid) (b : Bid) (v : ℤ) → In b bs → lead_of b c i ≡ Some v → lowest i c bs ≤ℤ v
 lowest_bound i c bs b v h e =
     let m = least_bound i c bs None b v h e in
     let l = m.low in

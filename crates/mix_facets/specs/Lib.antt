@@ -4,3 +4,4 @@ pub mod Counted
 pub mod Candidates
 pub mod Grids
 pub mod Cells
+pub mod Totals

@@ -11,6 +11,7 @@ mod numbers;
 mod point;
 #[cfg(test)]
 mod tests;
+pub mod theorems;
 mod weight;
 
 pub use grid::{Grid, grid_of};

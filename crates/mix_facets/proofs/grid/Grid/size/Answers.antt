@@ -2,7 +2,8 @@ use Rattle.std.proofs.Common.{◌≡◌, ℕ, ◌+◌, ◌*◌, ◌^◌, ◌≤�
 use Rattle.std.proofs.lemmas.List.{get_or_default}
 use Rattle.mix_facets.specs.Grids.{size_of, IsRising}
 use Rattle.mix_facets.proofs.Numberings.{numbered_on, number_once}
-use Rattle.mix_facets.proofs.Sizes.{size_step, size_end, power_step, size_most}
+use Rattle.mix_bids.proofs.Powers.{power_step, power_most}
+use Rattle.mix_facets.proofs.Sizes.{size_step, size_end}
 use Rattle.mix_facets.proofs.grid.Grid.size.Goals as goal
 use Rattle.mix_facets.proofs.grid.Grid.size.Goals.{After-len, After-loop-numbers}
 
@@ -22,7 +23,7 @@ more c = power_step c.loop-numbers.size c.len.result c.loop-numbers.numbers-inde
 pub overflow_mul-size : goal.overflow_mul-size
 overflow_mul-size c =
     let m = more c in
-    let k = size_most (c.loop-numbers.size * c.len.result) (c.loop-numbers.numbers-index + 1) m (omega (arith, c.loop-numbers-test.true, ap length c.deref-numbers-items.ensures.value, c.self.invariant.0)) in
+    let k = power_most (c.loop-numbers.size * c.len.result) (c.loop-numbers.numbers-index + 1) m (omega (arith, c.loop-numbers-test.true, ap length c.deref-numbers-items.ensures.value, c.self.invariant.0)) in
     record { fits = omega arith }
 
 pub loop-numbers-preserved : goal.loop-numbers-preserved
@@ -39,7 +40,7 @@ size_is c =
     ∙ ap size_of (c.deref-numbers-items.ensures.value ∙ c.self.view_is)
 
 pub returns-clause-range : goal.returns-clause-range
-returns-clause-range c = size_most c.loop-numbers.size c.loop-numbers.numbers-index c.loop-numbers.invariant.range (omega (arith, c.loop-numbers.auto.numbers-index-end, ap length c.deref-numbers-items.ensures.value, c.self.invariant.0))
+returns-clause-range c = power_most c.loop-numbers.size c.loop-numbers.numbers-index c.loop-numbers.invariant.range (omega (arith, c.loop-numbers.auto.numbers-index-end, ap length c.deref-numbers-items.ensures.value, c.self.invariant.0))
 
 pub returns-clause-all : goal.returns-clause-all
 returns-clause-all c = λ point o.
