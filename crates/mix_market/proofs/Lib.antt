@@ -5,3 +5,4 @@ pub mod GoodsSets
 mod SlopeTables
 pub mod MarketLaws
 pub mod MarketFacts
+pub mod SingleSteps
