@@ -1,7 +1,8 @@
 // Whether prices may fall from a point and leave the Lyapunov function as low.
-ghost use Rattle.std.specs.Prelude.{◌≡◌, ◌↔◌, ◌<◌, ◌≤◌, ◌<ℤ◌, ℕ, suc, pos, true, length, slice_index_or, IsTrue};
+ghost use Rattle.std.specs.Prelude.{◌≡◌, ◌↔◌, ◌<◌, ◌≤◌, ◌<ℤ◌, ◌≤ℤ◌, ℕ, suc, pos, true, length, slice_index_or, IsTrue};
 ghost use Rattle.mix_num.specs.Vectors.{members, with_null};
 ghost use Rattle.mix_num.specs.Ranges.{HaveRoom};
+ghost use Rattle.mix_num.specs.Tables.{number_of};
 ghost use Rattle.mix_market.specs.Lowerings.{RisesWhereFallen};
 ghost use Rattle.mix_market.specs.Markets.{goods_of, lyapunov_of, reserves_of};
 
@@ -19,7 +20,7 @@ pub(crate) fn rises_where_fallen<D: Convex>(market: &Market<D>, prices: &Prices)
     market.slopes_down(prices, &mut slopes);
     for half in 1..Set::goods(prices.len()).bits() / 2 + 1 {
         let set = Set::from_bits(2 * half);
-        if can_fall(reserve, prices, set) && slopes.at(set) <= 0 {
+        if can_fall(reserve, prices, set) && stays_low(&slopes, set) {
             return false;
         }
     }
@@ -37,4 +38,11 @@ fn can_fall(reserve: &Prices, prices: &Prices, set: Set) -> bool
         }
     }
     true
+}
+
+/// Whether the slope of the set is 0 or negative.
+fn stays_low(slopes: &SetTable, set: Set) -> bool
+    ensures { IsTrue result ↔ (number_of slopes.now set ≤ℤ pos 0) }
+{
+    slopes.at(set) <= 0
 }
