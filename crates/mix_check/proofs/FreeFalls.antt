@@ -9,7 +9,7 @@ use Rattle.mix_num.specs.Moves.{IsSetOfGoods}
 use Rattle.mix_num.specs.Sums.{sum_in}
 use Rattle.mix_num.specs.Tables.{number_of}
 use Rattle.mix_market.specs.Lyapunov.{lyapunov}
-use Rattle.mix_clearing.specs.Lowerings.{CanFall}
+use Rattle.mix_market.specs.Lowerings.{CanFall}
 use Rattle.mix_text.specs.Auctions.{AuctionText}
 use Rattle.mix_answer.specs.Utilities.{utilities_of}
 use Rattle.mix_check.specs.declared.tables.Tables.{Tables}

@@ -13,7 +13,7 @@ use Rattle.mix_law.specs.Demands.{IsDemanded}
 use Rattle.mix_market.specs.Lyapunov.{lyapunov}
 use Rattle.mix_clearing.specs.Certificates.{tables_at}
 use Rattle.mix_clearing.specs.Clearings.{Clears, bidder_utility}
-use Rattle.mix_clearing.specs.Lowerings.{RisesWhereFallen}
+use Rattle.mix_market.specs.Lowerings.{RisesWhereFallen}
 use Rattle.mix_clearing.proofs.CheckedOutcomes.{checked_outcome}
 use Rattle.mix_clearing.proofs.FallingPrices.{least_clearing-by_lowering}
 use Rattle.mix_clearing.proofs.LyapunovLaws.{keep_local, lyapunov_keeps_local}

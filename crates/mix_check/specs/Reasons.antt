@@ -10,7 +10,7 @@ use Rattle.mix_law.specs.Demands.{IsDemanded, table_of}
 use Rattle.mix_market.specs.Lyapunov.{lyapunov}
 use Rattle.mix_clearing.specs.Certificates.{tables_at}
 use Rattle.mix_clearing.specs.Clearings.{bidder_bundle, bidder_utility}
-use Rattle.mix_clearing.specs.Lowerings.{CanFall}
+use Rattle.mix_market.specs.Lowerings.{CanFall}
 use Rattle.mix_bids.specs.Bids.{facet_weight}
 use Rattle.mix_bids.specs.Convexity.{IsConvexList}
 use Rattle.mix_text.specs.Auctions.{AuctionText}

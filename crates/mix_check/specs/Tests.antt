@@ -12,7 +12,7 @@ use Rattle.mix_law.specs.Demands.{IsDemanded, IsTableOf}
 use Rattle.mix_market.specs.Lyapunov.{lyapunov}
 use Rattle.mix_clearing.specs.Certificates.{IsTightPair, tables_at}
 use Rattle.mix_clearing.specs.Clearings.{bidder_utility}
-use Rattle.mix_clearing.specs.Lowerings.{RisesWhereFallen}
+use Rattle.mix_market.specs.Lowerings.{RisesWhereFallen}
 use Rattle.mix_bids.specs.Convexity.{IsConvexList}
 use Rattle.mix_text.specs.Auctions.{AuctionText}
 use Rattle.mix_text.specs.Bidders.{list_at}

@@ -5,7 +5,7 @@ use Rattle.mix_num.specs.Orders.{IsOrder}
 use Rattle.mix_market.specs.Lyapunov.{lyapunov}
 use Rattle.mix_clearing.specs.Clearings.{Clears, IsSolution}
 use Rattle.mix_clearing.specs.Certificates.{IsTightPair}
-use Rattle.mix_clearing.specs.Lowerings.{RisesWhereFallen}
+use Rattle.mix_market.specs.Lowerings.{RisesWhereFallen}
 use Rattle.mix_clearing.specs.Utilities.{KeepLaws}
 use Rattle.mix_clearing.proofs.FallingPrices.{least_clearing-by_lowering}
 use Rattle.mix_clearing.proofs.LyapunovLaws.{keep_local, lyapunov_keeps_local}

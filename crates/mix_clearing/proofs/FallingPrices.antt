@@ -4,9 +4,9 @@ use Rattle.mix_num.specs.Vectors.{Vector, with_null}
 use Rattle.mix_law.specs.Members.{KeepsLocal}
 use Rattle.mix_market.specs.Lyapunov.{IsLeastPoint, lyapunov}
 use Rattle.mix_clearing.specs.Clearings.{AreLeastClearing, CanClear}
-use Rattle.mix_clearing.specs.Lowerings.{RisesWhereFallen}
+use Rattle.mix_market.specs.Lowerings.{RisesWhereFallen}
 use Rattle.mix_clearing.proofs.LeastClearing.{above-where_clear, least-of_vectors, least_clearing-where_least_point, least_point-where_least_clearing}
-use Rattle.mix_clearing.proofs.SingleSteps.{least_by_lowering}
+use Rattle.mix_market.proofs.SingleSteps.{least_by_lowering}
 
 module _ (utilities : List (Vector → ℤ)) (supply reserve p : List ℤ) {w : ℤ} (keeps : KeepsLocal (length supply) (lyapunov utilities supply) w) (clear : CanClear utilities supply reserve p) where
   -- the least point, and what the test shows

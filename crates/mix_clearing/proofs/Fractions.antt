@@ -13,12 +13,12 @@ use Rattle.mix_market.specs.Lyapunov.{IsLeastPoint, lyapunov, sum_of}
 use Rattle.mix_market.specs.Steepest.{IsGoods, slope_of}
 use Rattle.mix_market.proofs.MarketLaws.{lyapunov-is, slope-is}
 use Rattle.mix_clearing.specs.Clearings.{AreLeastClearing}
-use Rattle.mix_clearing.specs.Lowerings.{RisesWhereFallen}
+use Rattle.mix_market.specs.Lowerings.{RisesWhereFallen}
 use Rattle.mix_clearing.specs.Scales.{AreLeastOfFractions, KeepScales, at_scale, multiplied}
 use Rattle.mix_clearing.proofs.ClearingPrices.{least-where_clear}
 use Rattle.mix_clearing.proofs.LeastClearing.{above-where_clear, least_point-where_least_clearing}
 use Rattle.mix_clearing.proofs.LyapunovLaws.{KeepLocal, lyapunov_keeps_local}
-use Rattle.mix_clearing.proofs.SingleSteps.{higher, least_point_of_steps, rises_at_least, same_null}
+use Rattle.mix_market.proofs.SingleSteps.{higher, least_point_of_steps, rises_at_least, same_null}
 
 -- each entry d times
 abbrev times : ℕ → Vector → Vector

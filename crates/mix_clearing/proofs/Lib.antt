@@ -1,7 +1,6 @@
 pub mod PriceLists
 pub mod ClearingPrices
 pub mod LeastClearing
-pub mod SingleSteps
 pub mod LyapunovLaws
 pub mod FallingPrices
 pub mod Completions

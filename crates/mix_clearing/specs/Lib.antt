@@ -3,5 +3,4 @@ pub mod Completions
 pub mod Values
 pub mod Scales
 pub mod Certificates
-pub mod Lowerings
 pub mod Utilities

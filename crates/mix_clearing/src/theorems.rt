@@ -6,7 +6,7 @@ ghost use Rattle.mix_market.specs.Lyapunov.{IsBelow, lyapunov};
 ghost use Rattle.mix_clearing.specs.Certificates.{IsTightPair};
 ghost use Rattle.mix_clearing.specs.Clearings.{AreLeastClearing, CanClear, Clears, KeepsTieRule};
 ghost use Rattle.mix_clearing.specs.Completions.{AreGreatestCompletable};
-ghost use Rattle.mix_clearing.specs.Lowerings.{RisesWhereFallen};
+ghost use Rattle.mix_market.specs.Lowerings.{RisesWhereFallen};
 ghost use Rattle.mix_clearing.specs.Scales.{AreLeastOfFractions, KeepScales, at_scale};
 ghost use Rattle.mix_clearing.specs.Utilities.{KeepLaws};
 ghost use Rattle.mix_clearing.specs.Values.{AreWorthMost};

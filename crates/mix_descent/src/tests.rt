@@ -4,7 +4,7 @@ ghost use Rattle.mix_num.specs.Ranges.{AreWithin};
 ghost use Rattle.mix_num.specs.Sellers.{AreAmounts, IsAmount};
 ghost use Rattle.mix_market.specs.Markets.{goods_of};
 
-use crate::{LongStep, descend, trail};
+use crate::{LongStep, descend, descend_near, trail};
 use mix_law::Convex;
 use mix_market::{Market, Seller};
 use mix_num::{Bundle, Prices, Set};
@@ -120,6 +120,38 @@ fn climbs_to_the_least_point(rt: HostRuntime) -> Result<(), Fail> {
     for (first, second, last_first, last_second) in rows {
         let end = end_of::<Brand>(&market, &pair(first, second), Blank::new(1));
         assert_eq!(rt; end.as_slice(), [last_first, last_second].as_slice());
+    }
+    Ok(())
+}
+
+/// The least point at or above the reserves, looked for near a guess, on a ledger of its own.
+fn found_near<L: Ledger>(market: &Market<Taker<Seller>>, guess: &Prices, blank: Blank) -> Prices
+    requires guess { AreWithin 1000000 (goods_of market.now) guess.now.items }
+    requires name { blank.name ≡ L.name }
+    requires parts { blank.parts ≡ L.parts }
+    requires some { blank.parts ≡ 1 }
+{
+    let mut steps = Steps::<L>::new(blank);
+    descend_near(market, guess, &mut steps)
+}
+
+#[test]
+fn finds_the_least_point_whatever_the_guess(rt: HostRuntime) -> Result<(), Fail> {
+    let market = market(rt.alloc())?;
+    // The reserves, the least point, one good wrong by a little or by much, and both too high.
+    let rows = [
+        (2, 0),
+        (7, 4),
+        (7, 5),
+        (6, 4),
+        (0, 4),
+        (1_000_000, 4),
+        (16, 12),
+        (1_000_000, 1_000_000),
+    ];
+    for (first, second) in rows {
+        let found = found_near::<Brand>(&market, &pair(first, second), Blank::new(1));
+        assert_eq!(rt; found.as_slice(), [7, 4].as_slice());
     }
     Ok(())
 }

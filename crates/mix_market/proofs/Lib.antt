@@ -5,3 +5,5 @@ pub mod GoodsSets
 mod SlopeTables
 pub mod MarketLaws
 pub mod MarketFacts
+mod Falls
+pub mod SingleSteps

@@ -1,5 +1,6 @@
 pub mod Lyapunov
 pub mod Steepest
+pub mod Lowerings
 pub mod Extremes
 pub mod Memberships
 pub mod Markets

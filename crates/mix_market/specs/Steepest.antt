@@ -1,6 +1,6 @@
--- The set of goods along which a function falls most when their prices rise by one.
+-- By how much a function rises along sets of goods whose prices rise or fall by one, and the set along which it falls most when they rise.
 use Rattle.std.specs.Prelude.{◌≡◌, ℕ, ◌≤◌, true, false, List, ℤ, ◌-ℤ◌, ◌≤ℤ◌}
-use Rattle.mix_num.specs.Vectors.{Vector, Choices, members, plus}
+use Rattle.mix_num.specs.Vectors.{Vector, Choices, members, minus, plus}
 use Rattle.mix_num.specs.Moves.{IsSetOfGoods}
 use Rattle.mix_num.specs.Tables.{number_of}
 
@@ -16,9 +16,17 @@ IsWithin n s t = (k : ℕ) → k ≤ n → s k ≡ true → t k ≡ true
 abbrev pub slope_of : (Vector → ℤ) → Vector → Choices → ℤ
 slope_of l p s = l (plus p s) -ℤ l p
 
+-- by how much l rises when each price of the set falls by one
+abbrev pub slope_down : (Vector → ℤ) → Vector → Choices → ℤ
+slope_down l p s = l (minus p s) -ℤ l p
+
 -- a table whose number of each set of goods is the slope along the set
 abbrev pub AreSlopes : ℕ → (Vector → ℤ) → Vector → List ℤ → Type 0
 AreSlopes n l p table = (set : ℕ) → IsSetOfGoods n set → number_of table set ≡ slope_of l p (members set)
+
+-- a table whose number of each set of goods is the slope where the set falls
+abbrev pub AreSlopesDown : ℕ → (Vector → ℤ) → Vector → List ℤ → Type 0
+AreSlopesDown n l p table = (set : ℕ) → IsSetOfGoods n set → number_of table set ≡ slope_down l p (members set)
 
 -- of all sets of goods, the empty one among them, s has the least slope, and lies within each other that does
 pub record IsMinimalSteepest (n : ℕ) (l : Vector → ℤ) (p : Vector) (s : Choices) : Type 0 where

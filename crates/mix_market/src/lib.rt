@@ -2,6 +2,7 @@
 #![tactic(auto)]
 
 mod market;
+mod others;
 mod sums;
 mod supply;
 

@@ -3,6 +3,7 @@ ghost use Rattle.std.specs.Prelude.{◌≡◌, ◌≤◌, length, All};
 ghost use Rattle.mix_seller.specs.Sellers.{supply_of};
 ghost use Rattle.mix_market.specs.Memberships.{AreMembers, AreTops, sum_of_totals};
 
+use crate::others::others;
 use crate::sums;
 use crate::supply::{cost, supplied};
 use arrayvec::ArrayVec;
@@ -29,7 +30,7 @@ impl<D: Convex> Market<D> {
     ghost use Rattle.mix_num.specs.Moves.{IsSetOfGoods};
     ghost use Rattle.mix_num.specs.Tables.{number_of};
     ghost use Rattle.mix_seller.specs.Sellers.{supply_of};
-    ghost use Rattle.mix_market.specs.Steepest.{AreSlopes, slope_of};
+    ghost use Rattle.mix_market.specs.Steepest.{AreSlopes, AreSlopesDown, slope_of};
     ghost use Rattle.mix_market.specs.Extremes.{greatest_of, least_of};
     ghost use Rattle.mix_market.specs.Memberships.{sum_of_totals};
     ghost use Rattle.mix_market.specs.Markets.{goods_of, lyapunov_of, members_of, seller_of};
@@ -68,9 +69,10 @@ impl<D: Convex> Market<D> {
         &self.seller
     }
 
-    /// The sum of the members' totals.
+    /// The sum of the members' totals, from 0 to 2,048,000,000.
     pub fn total(&self) -> i64
-        ensures { result ≡ sum_of_totals D.weight (members_of self.now) }
+        ensures value { result ≡ sum_of_totals D.weight (members_of self.now) }
+        ensures range { (pos 0 ≤ℤ result) × (result ≤ℤ pos 2048000000) }
     {
         self.total
     }
@@ -115,6 +117,25 @@ impl<D: Convex> Market<D> {
         for half in 0..Set::goods(prices.len()).bits() / 2 + 1 {
             let set = Set::from_bits(2 * half);
             out.add(set, supplied(self.seller.supply(), set) - falls.at(set));
+        }
+    }
+
+    /// By how much [`Market::lyapunov`] rises when the price of each good of a set falls by one, for each set of goods; every other
+    /// set gets 0.
+    pub fn slopes_down(&self, prices: &Prices, out: &mut SetTable)
+        requires { HaveRoom (goods_of self.now) prices.now.items }
+        ensures goods { AreSlopesDown (goods_of self.now) (lyapunov_of self.now) (with_null prices.now.items) out.new }
+        ensures others { (set : ℕ) → ¬ IsSetOfGoods (goods_of self.now) set → number_of out.new set ≡ pos 0 }
+    {
+        let falls = sums::falls(&self.members, prices);
+        let total = self.total();
+        let n = prices.len();
+        *out = SetTable::new();
+        // A set falls by one where all choices fall by one, which gains the total, and the others rise again.
+        for half in 0..Set::goods(n).bits() / 2 + 1 {
+            let set = Set::from_bits(2 * half);
+            let gain = total - falls.at(others(set, n));
+            out.add(set, gain - supplied(self.seller.supply(), set));
         }
     }
 

@@ -73,6 +73,28 @@ fn slopes_are_supply_less_fall(rt: HostRuntime) -> Result<(), Fail> {
 }
 
 #[test]
+fn slopes_down_are_gain_less_supply(rt: HostRuntime) -> Result<(), Fail> {
+    let market = market(rt.alloc())?;
+    let mut slopes = SetTable::new();
+    let rows = [
+        (0, 0, 2, 1),
+        (5, 3, 2, 1),
+        (5, 3, 4, 1),
+        (5, 3, 6, 2),
+        (6, 3, 2, -1),
+        (6, 3, 6, 0),
+        (6, 4, 6, -2),
+        (6, 4, 0, 0),
+        (6, 4, 7, 0),
+    ];
+    for (first, second, bits, slope) in rows {
+        market.slopes_down(&pair(first, second), &mut slopes);
+        assert_eq!(rt; slopes.at(Set::from_bits(bits)), slope);
+    }
+    Ok(())
+}
+
+#[test]
 fn reaches_are_the_least_of_members(rt: HostRuntime) -> Result<(), Fail> {
     let market = market(rt.alloc())?;
     assert_eq!(rt; market.reach(&pair(0, 0), Set::from_bits(2)), 5);

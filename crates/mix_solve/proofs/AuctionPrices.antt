@@ -1,9 +1,5 @@
 -- The least prices of an auction's market are those of the auction.
-use Rattle.std.proofs.Common.{◌≡◌, ◌∙◌, ℕ, ℤ, List, [], ◌∷◌, length, map, ap, refl, subst, arith}
-use Rattle.std.proofs.lemmas.Int.{ints}
-use Rattle.std.proofs.lemmas.List.Elements.{All-weaker}
-use Rattle.mix_num.specs.Ranges.{AreWithin, Lies}
-use Rattle.mix_num.specs.Sellers.{IsAmount, IsForSale}
+use Rattle.std.proofs.Common.{◌≡◌, ◌∙◌, ℕ, ℤ, List, [], ◌∷◌, length, map, ap, refl, subst}
 use Rattle.mix_num.specs.Vectors.{Vector, with_null}
 use Rattle.mix_bids.specs.Bids.{Book, utility}
 use Rattle.mix_law.specs.declared.convex.Convex.{Ghosts}
@@ -18,10 +14,6 @@ use Rattle.mix_market.specs.declared.market.Market.{Market}
 use Rattle.mix_solve.specs.Admissions.{IsMarketOf, books_of}
 use Rattle.mix_answer.specs.Utilities.{utilities_of}
 use Rattle.mix_solve.specs.LeastPrices.{AreLeastPrices}
-
--- reserves lie within the range of a start of the climb
-pub reserves_within : (supply reserve : List ℤ) → IsForSale supply reserve → AreWithin 1000000 (length supply) reserve
-reserves_within supply reserve sale = (sale.reserves.0, All-weaker IsAmount (Lies 1000000) (λ x is. (omega (arith, ints, is.0), is.1)) reserve sale.reserves.1)
 
 -- the functions of the lists, list by list
 lists_functions : (lists : List ValidList) → map (λ valid. utility (book_of valid).bids) lists ≡ map (λ book. utility book.bids) (map book_of lists)

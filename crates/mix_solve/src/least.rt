@@ -6,7 +6,8 @@ ghost use Rattle.mix_seller.specs.Sellers.{reserve_of};
 ghost use Rattle.mix_market.specs.Lyapunov.{IsLeastPoint};
 ghost use Rattle.mix_market.specs.Markets.{goods_of, lyapunov_of, seller_of};
 
-use mix_descent::descend;
+use mix_descent::descend_near;
+use mix_guess::guess_prices;
 use mix_market::Market;
 use mix_num::Prices;
 use mix_step::Steps;
@@ -20,12 +21,11 @@ pub fn least_prices(market: &Market<ValidList>) -> Prices
     ensures least { IsLeastPoint (goods_of market.now) (lyapunov_of market.now) (with_null (reserve_of (seller_of market.now))) (with_null result.items) }
     ensures range { AreWithin 1000000 (goods_of market.now) result.items }
 {
-    climb::<Brand>(market, Blank::new(1))
+    search::<Brand>(market, Blank::new(1))
 }
 
-// The end of the climb from the reserves, with a counter of steps on a ledger of its own.
-#[tactic(auto, using(crate::proofs::AuctionPrices::reserves_within))]
-fn climb<L: Ledger>(market: &Market<ValidList>, blank: Blank) -> Prices
+// The least point, looked for near a guess, with a counter of steps on a ledger of its own.
+fn search<L: Ledger>(market: &Market<ValidList>, blank: Blank) -> Prices
     requires name { blank.name ≡ L.name }
     requires parts { blank.parts ≡ L.parts }
     requires some { 0 < blank.parts }
@@ -33,5 +33,5 @@ fn climb<L: Ledger>(market: &Market<ValidList>, blank: Blank) -> Prices
     ensures range { AreWithin 1000000 (goods_of market.now) result.items }
 {
     let mut steps = Steps::<L>::new(blank);
-    descend(market, market.seller().reserve(), &mut steps)
+    descend_near(market, &guess_prices(market), &mut steps)
 }

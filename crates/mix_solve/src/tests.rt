@@ -1,7 +1,20 @@
 // Auctions that are taken in, refused and solved, where memory is ample. The answers were worked out by hand.
-use crate::{Admitted, admit, solve};
+ghost use Rattle.std.specs.Prelude.{◌≡◌, ◌≤◌, length};
+ghost use Rattle.mix_num.specs.Ranges.{AreWithin};
+ghost use Rattle.mix_num.specs.Sellers.{AreAmounts, IsAmount};
+ghost use Rattle.mix_market.specs.Markets.{goods_of};
+
+use crate::{Admitted, admit, least_prices, solve};
 use mix_answer::{Outcome, print_outcome};
+use mix_descent::{descend, descend_near};
+use mix_market::Market;
+use mix_num::Prices;
+use mix_step::Steps;
 use mix_text::read_auction;
+use mix_validity::ValidList;
+use std::alloc::Global;
+use std::marker::Brand;
+use std::sync::ledger::{Blank, Ledger};
 use std::test::Fail;
 
 // X bids for the goods as substitutes, Y for the first alone.
@@ -26,6 +39,93 @@ const TIED_SOLVED: &[u8] =
 // X gets the lesser of what the two goods leave it: that is not convex where A and B cost the same, 5 at most.
 const COMPLEMENTS: &[u8] =
     b"mix,1\ngoods,A,B\nsupply,1,1\nreserve,0,0\nbid,X,1,6,-\nbid,X,1,-,6\nbid,X,-1,6,6\nend\n";
+
+// Of A there are two units for three bids: the least of them, 750,001, is the price. Of B there is one for two, and Z, who is left out,
+// would pay 900,000.
+const WIDE: &[u8] =
+    b"mix,1\ngoods,A,B\nsupply,2,1\nreserve,1000,0\nbid,X,1,1000000,-\nbid,X,1,-,999999\nbid,Y,2,750001,250000\nbid,Z,1,500003,900000\nend\n";
+
+/// The market of an auction of two goods that is taken in.
+fn market_of(alloc: Global, text: &[u8]) -> Result<Market<ValidList>, Fail>
+    requires { length text.now ≤ 4194304 }
+{
+    let (auction, _) = read_auction(alloc, text)?;
+    let Admitted::Market(market) = admit(alloc, &auction).ok().ok_or("memory")? else {
+        return Err("a market".into());
+    };
+    Ok(market)
+}
+
+/// A price for each of two goods.
+fn pair(first: i64, second: i64) -> Prices
+    requires first { IsAmount first }
+    requires second { IsAmount second }
+    ensures { AreWithin 1000000 2 result.items }
+{
+    let mut both = Prices::new();
+    both.push(first);
+    both.push(second);
+    both
+}
+
+/// The end of the climb from the start, on a ledger of its own.
+fn climbed<L: Ledger>(market: &Market<ValidList>, start: &Prices, blank: Blank) -> Prices
+    requires start { AreWithin 1000000 (goods_of market.now) start.now.items }
+    requires name { blank.name ≡ L.name }
+    requires parts { blank.parts ≡ L.parts }
+    requires some { blank.parts ≡ 1 }
+{
+    let mut steps = Steps::<L>::new(blank);
+    descend(market, start, &mut steps)
+}
+
+/// The least prices, looked for near a guess, on a ledger of its own.
+fn found_near<L: Ledger>(market: &Market<ValidList>, guess: &Prices, blank: Blank) -> Prices
+    requires guess { AreWithin 1000000 (goods_of market.now) guess.now.items }
+    requires name { blank.name ≡ L.name }
+    requires parts { blank.parts ≡ L.parts }
+    requires some { blank.parts ≡ 1 }
+{
+    let mut steps = Steps::<L>::new(blank);
+    descend_near(market, guess, &mut steps)
+}
+
+#[test]
+fn finds_the_same_least_prices_however_it_looks(rt: HostRuntime) -> Result<(), Fail> {
+    let rows = [
+        (VALID, 0, 0, 4, 0),
+        (TIED, 0, 0, 0, 0),
+        (WIDE, 1_000, 0, 750_001, 900_000),
+    ];
+    // The reserves, the greatest prices, and one good wrong by much or by little.
+    let guesses = [
+        (1_000, 0),
+        (1_000_000, 1_000_000),
+        (4, 1_000_000),
+        (750_001, 0),
+        (750_002, 900_000),
+        (750_001, 899_999),
+    ];
+    for (text, first_reserve, second_reserve, first, second) in rows {
+        let market = market_of(rt.alloc(), text)?;
+        if market.seller().supply().len() != 2 {
+            return Err("two goods".into());
+        }
+        assert_eq!(rt;
+            least_prices(&market).as_slice(),
+            [first, second].as_slice()
+        );
+        let reserves = pair(first_reserve, second_reserve);
+        let end = climbed::<Brand>(&market, &reserves, Blank::new(1));
+        assert_eq!(rt; end.as_slice(), [first, second].as_slice());
+        for (first_guess, second_guess) in guesses {
+            let guess = pair(first_guess, second_guess);
+            let found = found_near::<Brand>(&market, &guess, Blank::new(1));
+            assert_eq!(rt; found.as_slice(), [first, second].as_slice());
+        }
+    }
+    Ok(())
+}
 
 #[test]
 fn takes_in_all_bidders(rt: HostRuntime) -> Result<(), Fail> {

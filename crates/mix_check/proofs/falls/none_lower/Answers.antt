@@ -3,7 +3,7 @@ use Rattle.std.proofs.lemmas.Int.{ints}
 use Rattle.std.proofs.lemmas.Bool.{cases_lt, false≢true}
 use Rattle.mix_num.specs.Vectors.{with_null}
 use Rattle.mix_market.specs.Lyapunov.{lyapunov}
-use Rattle.mix_clearing.specs.Lowerings.{CanFall}
+use Rattle.mix_market.specs.Lowerings.{CanFall}
 use Rattle.mix_text.specs.AuctionTexts.{auction_text}
 use Rattle.mix_answer.specs.Utilities.{utilities_of}
 use Rattle.mix_check.specs.Reasons.{FallsFreely}

@@ -1,4 +1,4 @@
 use Rattle.mix_solve.proofs.least.least_prices.Given as goal
 
-abbrev pub ghosts-climb : goal.ghosts-climb
-ghosts-climb a = record { name = a.blank.name; parts = a.blank.parts }
+abbrev pub ghosts-search : goal.ghosts-search
+ghosts-search a = record { name = a.blank.name; parts = a.blank.parts }

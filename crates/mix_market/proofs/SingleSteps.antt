@@ -12,7 +12,7 @@ use Rattle.mix_law.proofs.Lattice.{lattice, lesser, greater}
 use Rattle.mix_law.proofs.Exchanges.{AtMost, exchange_at, set_at, set_at_greatest, bound, lowered_at, raised_at, stays_above}
 use Rattle.mix_market.specs.Lyapunov.{IsBelow, IsLeastPoint}
 use Rattle.mix_market.specs.Steepest.{IsGoods}
-use Rattle.mix_clearing.specs.Lowerings.{RisesWhereFallen}
+use Rattle.mix_market.specs.Lowerings.{RisesWhereFallen}
 
 -- some choice below m passes the test, or none does
 pub some_or_none : (m : ℕ) (s : Choices) → ((k : ℕ) × (k < m) × (s k ≡ true)) ⊎ ((k : ℕ) → k < m → s k ≡ false)

@@ -1,0 +1,64 @@
+// The search for the least point from below a guess.
+ghost use Rattle.std.specs.Prelude.{◌≡◌, ◌<◌, ◌≤ℤ◌, ◌<ℤ◌, ◌-ℤ◌, ℕ, pos, length, get_or};
+ghost use Rattle.std.specs.Int.{int_max};
+ghost use Rattle.mix_num.specs.Vectors.{with_null};
+ghost use Rattle.mix_num.specs.Ranges.{AreWithin};
+ghost use Rattle.mix_market.specs.Lyapunov.{IsLeastPoint};
+ghost use Rattle.mix_market.specs.Markets.{goods_of, lyapunov_of, reserves_of};
+
+use crate::descent::descend;
+use crate::falls::rises_where_fallen;
+use mix_law::Convex;
+use mix_market::Market;
+use mix_num::Prices;
+use mix_step::Steps;
+use std::sync::ledger::Ledger;
+
+/// The least point of the market's Lyapunov function among the prices at or above the seller's reserves, from 0 to 1,000,000,
+/// whatever the guess.
+///
+/// The guess, prices from -1,000,000 to 1,000,000, says where to look: near it few steps are made. It climbs from the guess, and
+/// where prices can fall from the end, again from ever further below the guess, at last from the reserves. Steps are counted as by
+/// [`descend`].
+pub fn descend_near<D: Convex, L: Ledger>(
+    market: &Market<D>,
+    guess: &Prices,
+    steps: &mut Steps<L>,
+) -> Prices
+    requires { AreWithin 1000000 (goods_of market.now) guess.now.items }
+    ensures least { IsLeastPoint (goods_of market.now) (lyapunov_of market.now) (with_null (reserves_of market.now)) (with_null result.items) }
+    ensures range { AreWithin 1000000 (goods_of market.now) result.items }
+{
+    let mut margin = 0;
+    loop {
+        let start = below(guess, margin, market.seller().reserve());
+        let prices = descend(market, &start, steps);
+        if rises_where_fallen(market, &prices) {
+            return prices;
+        }
+        margin = wider(margin);
+    }
+}
+
+/// The next margin: 1, 8, 64 and so on.
+fn wider(margin: i64) -> i64
+    requires { (pos 0 ≤ℤ margin) × (margin ≤ℤ pos 2000000) }
+    ensures { (margin <ℤ result) × (result ≤ℤ pos 16000000) }
+{
+    (8 * margin).max(1)
+}
+
+/// For each good the guess less the margin, or the reserve where that is greater.
+fn below(guess: &Prices, margin: i64, reserve: &Prices) -> Prices
+    requires guess { AreWithin 1000000 (length guess.now.items) guess.now.items }
+    requires margin { (pos 0 ≤ℤ margin) × (margin ≤ℤ pos 16000000) }
+    requires reserve { AreWithin 1000000 (length guess.now.items) reserve.now.items }
+    ensures size { length result.items ≡ length guess.now.items }
+    ensures value { (k : ℕ) → k < length guess.now.items → get_or result.items k (pos 0) ≡ int_max (get_or guess.now.items k (pos 0) -ℤ margin) (get_or reserve.now.items k (pos 0)) }
+{
+    let mut start = Prices::new();
+    for (place, price) in guess.iter().enumerate() {
+        start.push((*price - margin).max(reserve[place]));
+    }
+    start
+}

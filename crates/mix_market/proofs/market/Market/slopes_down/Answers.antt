@@ -1,0 +1,82 @@
+use Rattle.std.proofs.Common.{not, ◌≡◌, ◌∙◌, ◌^◌, ◌+◌, ◌-◌, ◌*◌, ◌<◌, ◌/◌, ℕ, suc, List, ℤ, ◌-ℤ◌, length, map, arith, ap, sym, subst, to_z, of_z, w64}
+use Rattle.std.proofs.lemmas.Int.{ints}
+use Rattle.mix_num.specs.Vectors.{bit, dot_to, members as within, with_null}
+use Rattle.mix_num.specs.Moves.{IsSetOfGoods}
+use Rattle.mix_num.specs.Tables.{number_of}
+use Rattle.mix_law.specs.Members.{fall_of}
+use Rattle.mix_law.proofs.NewTables.{zero_number}
+use Rattle.mix_seller.specs.Sellers.{supply_of}
+use Rattle.mix_market.specs.Lyapunov.{sum_of}
+use Rattle.mix_market.specs.Markets.{goods_of, lyapunov_of, members_of, seller_of}
+use Rattle.mix_market.specs.Steepest.{slope_down}
+use Rattle.mix_market.proofs.GoodsSets.{count_goods, even_goods, even_of, half_goods}
+use Rattle.mix_market.proofs.Falls.{slope_down-by_others}
+use Rattle.mix_market.proofs.MarketFacts.{market_keeps}
+use Rattle.mix_market.specs.Memberships.{sum_of_totals}
+use Rattle.mix_market.proofs.SlopeTables.{next_zero, one_done}
+use Rattle.mix_market.proofs.market.Market.slopes_down.Goals as goal
+
+pub loop-half-init : goal.loop-half-init
+loop-half-init g c = record { done = λ k l. absurd (none k l); others = λ set h. zero_number c.new.result set c.new.ensures }
+  where
+    none : (k : ℕ) → k < 0 → ⊥
+    none k l = omega arith
+
+pub add-requires : goal.add-requires
+add-requires g c =
+    let set = c.from_bits-set.result in
+    let e : set ≡ 2 * c.loop-half.half = omega (arith, c.from_bits-set.ensures, c.bits.ensures.range) in
+    let zero = ap (number_of c.loop-half.out) e ∙ next_zero c.loop-half.out _ c.loop-half.half c.loop-half.invariant in
+    let falls = c.falls-falls.ensures.range c.others.result in
+    let total = c.total-total.ensures.range in
+    let supplied = c.supplied.ensures.range in
+    let at = c.at.ensures.value in
+    (omega (arith, ints, falls.0, falls.1, supplied.0, supplied.1, total.0, total.1), omega (arith, ints, falls.0, falls.1, supplied.0, supplied.1, total.0, total.1))
+
+pub loop-half-preserved : goal.loop-half-preserved
+loop-half-preserved g c =
+    let market = c.args.self.now in
+    let prices = c.args.prices.now.items in
+    let x = with_null prices in
+    let n = length prices in
+    let half = c.loop-half.half in
+    let set = c.from_bits-set.result in
+    let rest = c.others.result in
+    let e : set ≡ 2 * half = omega (arith, c.from_bits-set.ensures, c.bits.ensures.range) in
+    let members = ap (λ (z : List g.row.D.Denot). fall_of (sum_of (map g.D.Convex.function z)) x (within rest)) c.deref.ensures.value in
+    let supply = ap (λ (z : List ℤ). dot_to (suc (length z)) (with_null z) (λ good. bit (within set good))) (c.deref-in-loop-half.ensures.0 ∙ c.supply.ensures.value) in
+    let outside : (k : ℕ) → k < suc (goods_of market) → within rest k ≡ not (within set k) = λ k h. c.others.ensures.members k (omega (arith, h, c.requires.0, c.len-n.ensures.value)) in
+    let down = slope_down-by_others (map g.D.Convex.function (members_of market)) (supply_of (seller_of market)) (sum_of_totals g.D.Convex.weight (members_of market)) (market_keeps market) x (within set) (within rest) outside in
+    let small : rest < 2 ^ suc n = subst (λ (k : ℕ). rest < 2 ^ suc k) c.len-n.ensures.value c.others.ensures.within in
+    let fall = c.falls-falls.ensures.value rest small in
+    let falls = c.falls-falls.ensures.range rest in
+    let total = c.total-total.ensures.range in
+    let total_is = c.total-total.ensures.value in
+    let supplied = c.supplied.ensures.range in
+    let supplied_is = c.supplied.ensures.value in
+    let at = c.at.ensures.value in
+    one_done c.loop-half.out c.add.new.self _ half set (to_z w64 (of_z w64 (to_z w64 (of_z w64 (to_z w64 (of_z w64 c.total-total.result) -ℤ to_z w64 (of_z w64 c.at.result))) -ℤ to_z w64 (of_z w64 c.supplied.result)))) e
+    (omega (arith, ints, falls.0, falls.1, supplied.0, supplied.1, total.0, total.1)) c.add.ensures.sum c.add.ensures.others c.loop-half.invariant
+
+pub returns-clause-goods : goal.returns-clause-goods
+returns-clause-goods g c = λ set goods.
+    let market = c.args.self.now in
+    let prices = c.args.prices.now.items in
+    let slope : ℕ → ℤ = λ k. slope_down (lyapunov_of market) (with_null prices) (within k) in
+    let count = count_goods (length prices) in
+    let last = c.goods.ensures ∙ ap (λ (k : ℕ). 2 ^ (k + 1) - 2) c.len-n.ensures.value in
+    let all : c.loop-half.half ≡ 2 ^ length prices = omega (arith, c.bits.ensures.value, last) in
+    let power = ap (λ (k : ℕ). 2 ^ k) c.requires.0 in
+    let below = half_goods (goods_of market) set goods in
+    let even = even_of set goods.1 in
+    ap (number_of c.loop-half.out) even ∙ c.loop-half.invariant.done (set / 2) (omega arith) ∙ ap slope (sym even)
+
+pub returns-clause-others : goal.returns-clause-others
+returns-clause-others g c = λ set other.
+    let market = c.args.self.now in
+    let prices = c.args.prices.now.items in
+    let count = count_goods (length prices) in
+    let last = c.goods.ensures ∙ ap (λ (k : ℕ). 2 ^ (k + 1) - 2) c.len-n.ensures.value in
+    let all : c.loop-half.half ≡ 2 ^ length prices = omega (arith, c.bits.ensures.value, last) in
+    let power = ap (λ (k : ℕ). 2 ^ k) c.requires.0 in
+    c.loop-half.invariant.others set (λ k l e. other (subst (IsSetOfGoods (goods_of market)) (sym e) (even_goods (goods_of market) k (omega arith))))
