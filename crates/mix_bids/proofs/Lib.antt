@@ -4,6 +4,7 @@ mod Loops
 mod MoreOffers
 pub mod BestChoices
 pub mod BestMultiples
+pub mod CappedFalls
 pub mod Cases
 pub mod FacetsAtPrices
 pub mod Falls
@@ -16,7 +17,10 @@ pub mod LongRaises
 pub mod Multiples
 pub mod Near
 pub mod Pairs
+pub mod PositiveBids
 pub mod Products
 pub mod Sets
 pub mod Tallies
+pub mod Thresholds
+pub mod Units
 pub mod Weights

@@ -3,3 +3,4 @@ pub mod Bids
 pub mod Convexity
 pub mod Facets
 pub mod Reaches
+pub mod Caps
