@@ -1,6 +1,6 @@
 mod Bits
-mod Comparisons
-mod Loops
+pub mod Comparisons
+pub mod Loops
 mod MoreOffers
 pub mod BestChoices
 pub mod BestMultiples

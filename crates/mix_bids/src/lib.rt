@@ -13,7 +13,8 @@ mod sums;
 #[cfg(test)]
 mod tests;
 
-pub use best::best_set;
+pub use best::{Best, best_choices, best_set};
 pub use bid::{Bid, Values};
 pub use list::BidList;
 pub use scales::utility_at_scales;
+pub use sums::{weigh, weight_where};

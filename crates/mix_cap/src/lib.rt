@@ -1,0 +1,2 @@
+//! Bidders with a cap on their units in all goods together, as members of the market; and members of either kind.
+#![tactic(auto)]
