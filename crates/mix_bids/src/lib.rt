@@ -13,6 +13,7 @@ mod sums;
 #[cfg(test)]
 mod tests;
 
+pub use all_sets::outside;
 pub use best::{Best, best_choices, best_set};
 pub use bid::{Bid, Values};
 pub use list::BidList;

@@ -1,5 +1,5 @@
 -- Why a bidder with a cap keeps the laws of a member. For proofs; no public clause rests on it.
-use Rattle.std.specs.Prelude.{◌≡◌, ◌≢◌, ℕ, zero, suc, ◌≤◌, Bool, false, List, [], ◌∷◌, ℤ, pos, ◌+ℤ◌, ◌-ℤ◌, ◌*ℤ◌, ◌≤ℤ◌, Option, Some, None, length, min}
+use Rattle.std.specs.Prelude.{◌≡◌, ◌≢◌, ℕ, zero, suc, ◌≤◌, false, List, [], ◌∷◌, ℤ, pos, ◌+ℤ◌, ◌-ℤ◌, ◌*ℤ◌, ◌≤ℤ◌, Option, Some, None, length, min}
 use Rattle.std.specs.Int.{int_max}
 use Rattle.std.specs.Int.RustNames.{unsigned_abs}
 use Rattle.std.proofs.Common.{eqb, refl, arith, ap, ap₂, subst, ◌∙◌, sym}
@@ -7,7 +7,7 @@ use Rattle.std.proofs.lemmas.Int.{ints, clamps}
 use Rattle.std.proofs.lemmas.Bool.Decides.{nat_tests}
 use Rattle.std.proofs.lemmas.List.Elements.{All-head, All-tail}
 use Rattle.std.proofs.Math.IntN.{zero-*ℤ}
-use Rattle.mix_num.specs.Vectors.{Vector, bit, only, plus, shifted}
+use Rattle.mix_num.specs.Vectors.{Vector, bit, only, plus}
 use Rattle.mix_num.proofs.Products.{*ℤ-sum, *ℤ-difference}
 use Rattle.mix_bids.specs.Offers.{Offers, better, gain, gain_from, later, offer}
 use Rattle.mix_bids.specs.Bids.{AreBids, top_value, total_weight, utility}

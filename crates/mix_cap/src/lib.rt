@@ -1,2 +1,10 @@
 //! Bidders with a cap on their units in all goods together, as members of the market; and members of either kind.
 #![tactic(auto)]
+
+mod capped;
+mod lots;
+mod member;
+mod tallies;
+
+pub use capped::Capped;
+pub use member::Member;
