@@ -5,6 +5,10 @@ mod capped;
 mod lots;
 mod member;
 mod tallies;
+pub mod theorems;
 
 pub use capped::Capped;
 pub use member::Member;
+
+#[cfg(test)]
+mod tests;
