@@ -14,13 +14,13 @@ use Rattle.mix_bids.proofs.Lengths.{AreOver}
 use Rattle.mix_bids.proofs.Multiples.{gain-times, offered_at, offered_once, offers_once, over_at, times, utility_once}
 use Rattle.mix_bids.proofs.Weights.{utility_falls, utility_rises}
 
-gain-multiple : (d : ℕ) (vs : Offers) (x : Vector) → gain (offers_at d vs) (times d x) ≡ pos d *ℤ gain vs x
+pub gain-multiple : (d : ℕ) (vs : Offers) (x : Vector) → gain (offers_at d vs) (times d x) ≡ pos d *ℤ gain vs x
 gain-multiple d vs x =
     let one : d ≡ d * 1 = omega arith in
     ap (λ (e : ℕ). gain (offers_at e vs) (times d x)) one ∙ gain-times d 1 vs x ∙ ap (λ (us : Offers). pos d *ℤ gain us x) (offers_once vs)
 
 -- the best choices at multiplied prices and values are those at the prices themselves
-best-multiple : (d : ℕ) (vs : Offers) (x : Vector) (k : ℕ) → 1 ≤ d → best (offers_at d vs) (times d x) k ≡ best vs x k
+pub best-multiple : (d : ℕ) (vs : Offers) (x : Vector) (k : ℕ) → 1 ≤ d → best (offers_at d vs) (times d x) k ≡ best vs x k
 best-multiple d vs x k some =
     let g = gain-multiple d vs x in
     same_bool (best (offers_at d vs) (times d x) k) (best vs x k)

@@ -1,27 +1,31 @@
 mod Bits
-mod Comparisons
-mod Loops
 mod MoreOffers
 pub mod BestChoices
 pub mod BestMultiples
+pub mod CappedFalls
 pub mod Cases
 pub mod CellPushes
+pub mod Comparisons
 pub mod FacetsAtPrices
 pub mod Falls
 pub mod Far
 pub mod Gains
 pub mod HalfSteps
 pub mod Lengths
-pub mod Locals
 pub mod LevelTurns
+pub mod Locals
 pub mod LongRaises
+pub mod Loops
 pub mod Multiples
 pub mod Near
 pub mod Pairs
+pub mod PositiveBids
 pub mod Powers
 pub mod Products
 pub mod SameNumbers
 pub mod Sets
 pub mod Tallies
+pub mod Thresholds
 pub mod Uniques
+pub mod Units
 pub mod Weights

@@ -7,3 +7,4 @@ pub mod Counted
 pub mod Convexity
 pub mod Facets
 pub mod Reaches
+pub mod Caps

@@ -98,7 +98,7 @@ fn weights_within(list: &BidList, prices: &Prices) -> SetTable
 }
 
 /// The choices 0 to n outside a set.
-fn outside(set: Set, n: usize) -> Set
+pub fn outside(set: Set, n: usize) -> Set
     requires { n ≤ 8 }
     ensures members { (k : ℕ) → k < suc n → members result k ≡ not (members set k) }
     ensures within { result < 2 ^ suc n }

@@ -4,18 +4,20 @@ ghost use Rattle.std.specs.Int.{int_max};
 ghost use Rattle.std.specs.Ordering.{int_eq};
 ghost use Rattle.mix_num.specs.Vectors.{members, with_null};
 ghost use Rattle.mix_num.specs.Ranges.{ArePrices, Lies};
-ghost use Rattle.mix_bids.specs.Offers.{best as best_of, better as better_of, leaves as leaves_of, IsOffer};
+ghost use Rattle.mix_bids.specs.Offers.{best as best_of, better as better_of, gain as gain_of, leaves as leaves_of, IsOffer};
 ghost use Rattle.mix_bids.specs.Bids.{IsBid};
 
 use crate::bid::Bid;
 use crate::choices::{set_where, with_choice};
 use mix_num::{Prices, Set};
 
-/// Of the choices looked at so far, the greatest value less price, and the set of those that have it.
+/// Of the choices of a bid looked at so far, the null choice among them, the greatest value less price, and those that have it.
 #[derive(Clone, Copy, Drop)]
-struct Best {
-    gain: i64,
-    set: Set,
+pub struct Best {
+    /// What the bid gains, from 0 to 5,000,000.
+    pub gain: i64,
+    /// The choices at which it gains this.
+    pub set: Set,
 }
 
 impl Best {
@@ -68,12 +70,15 @@ impl Best {
     }
 }
 
-/// The choices of the bid, the null choice among them, with the greatest value less price. It takes no memory.
-pub fn best_set(bid: &Bid, prices: &Prices) -> Set
+/// What the bid gains at the prices, and the choices at which it gains this: those with the greatest value less price, the null choice
+/// among them. It takes no memory.
+pub fn best_choices(bid: &Bid, prices: &Prices) -> Best
     requires bid { IsBid (length prices.now.items) bid.now }
     requires prices { ArePrices (length prices.now.items) prices.now.items }
-    ensures best { (k : ℕ) → members result k ≡ best_of bid.now.values.items (with_null prices.now.items) k }
-    ensures within { result < 2 ^ (length prices.now.items + 1) }
+    ensures gain { result.gain ≡ gain_of bid.now.values.items (with_null prices.now.items) }
+    ensures range { (pos 0 ≤ℤ result.gain) × (result.gain ≤ℤ pos 5000000) }
+    ensures best { (k : ℕ) → members result.set k ≡ best_of bid.now.values.items (with_null prices.now.items) k }
+    ensures within { result.set < 2 ^ (length prices.now.items + 1) }
 {
     let offers = bid.values.as_slice();
     let prices = prices.as_slice();
@@ -84,5 +89,15 @@ pub fn best_set(bid: &Bid, prices: &Prices) -> Set
             best = best.with(i + 1, offers[i], prices[i]);
         }
     }
-    best.set
+    best
+}
+
+/// The best set of the bid: the choices with the greatest value less price, the null choice among them. It takes no memory.
+pub fn best_set(bid: &Bid, prices: &Prices) -> Set
+    requires bid { IsBid (length prices.now.items) bid.now }
+    requires prices { ArePrices (length prices.now.items) prices.now.items }
+    ensures best { (k : ℕ) → members result k ≡ best_of bid.now.values.items (with_null prices.now.items) k }
+    ensures within { result < 2 ^ (length prices.now.items + 1) }
+{
+    best_choices(bid, prices).set
 }

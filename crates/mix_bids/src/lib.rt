@@ -15,8 +15,10 @@ mod sums;
 #[cfg(test)]
 mod tests;
 
-pub use best::best_set;
+pub use all_sets::outside;
+pub use best::{Best, best_choices, best_set};
 pub use bid::{Bid, Values};
 pub use leads::{has_difference, lead, negative_lead, other};
 pub use list::BidList;
 pub use scales::utility_at_scales;
+pub use sums::{weigh, weight_where};

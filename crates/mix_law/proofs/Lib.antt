@@ -7,3 +7,5 @@ pub mod NewTables
 pub mod MemberTables
 pub mod Demanded
 pub mod Amounts
+pub mod LeastNulls
+pub mod Outside

@@ -2,4 +2,4 @@ pub mod ConvexLists
 pub mod FacetsAtScales
 pub mod ListLaws
 pub mod ListsAtScales
-mod Tops
+pub mod Tops

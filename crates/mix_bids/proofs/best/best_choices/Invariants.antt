@@ -1,7 +1,7 @@
 use Rattle.std.proofs.Common.{◌≡◌, ◌+◌, ◌^◌, ◌<◌, ℕ, pos, ◌≤ℤ◌, length, take}
 use Rattle.mix_num.specs.Vectors.{with_null, members}
 use Rattle.mix_bids.specs.Offers.{best, gain}
-use Rattle.mix_bids.proofs.best.best_set.Given as goal
+use Rattle.mix_bids.proofs.best.best_choices.Given as goal
 
 abbrev pub invariant-loop-i : goal.invariant-loop-i
 invariant-loop-i l = record {

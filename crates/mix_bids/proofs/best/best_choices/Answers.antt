@@ -10,8 +10,8 @@ use Rattle.std.proofs.lemmas.List.{take_all}
 use Rattle.mix_num.specs.Vectors.{members, with_null}
 use Rattle.mix_num.proofs.Masks.{members_above}
 use Rattle.mix_bids.proofs.MoreOffers.{best_turn, gain_turn}
-use Rattle.mix_bids.proofs.best.best_set.Goals as goal
-use Rattle.mix_bids.proofs.best.best_set.Goals.{then-i-offers, else-i-offers}
+use Rattle.mix_bids.proofs.best.best_choices.Goals as goal
+use Rattle.mix_bids.proofs.best.best_choices.Goals.{then-i-offers, else-i-offers}
 
 pub with-best-requires-clause-offer : goal.with-best-requires-clause-offer
 with-best-requires-clause-offer c =
@@ -70,3 +70,10 @@ returns-clause-best c = λ k.
 
 pub returns-clause-within : goal.returns-clause-within
 returns-clause-within c = subst (λ (n : ℕ). c.loop-i.best.set < 2 ^ (n + 1)) (ap length c.as_slice-offers.ensures.value ∙ c.requires.bid.offers.size) c.loop-i.invariant.size
+
+pub returns-clause-gain : goal.returns-clause-gain
+returns-clause-gain c =
+    c.loop-i.invariant.gain
+    ∙ ap (λ z. gain_of z (with_null c.as_slice-prices.result.now)) (take_all c.loop-i.i c.as_slice-offers.result.now (omega (arith, ap length c.as_slice-offers.ensures.value)))
+    ∙ ap (λ z. gain_of z (with_null c.as_slice-prices.result.now)) c.as_slice-offers.ensures.value
+    ∙ ap (λ z. gain_of c.args.bid.now.values.items (with_null z)) c.as_slice-prices.ensures.value

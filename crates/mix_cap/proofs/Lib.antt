@@ -1,0 +1,4 @@
+mod CapsAtScales
+mod Chosen
+mod Counts
+mod LotSums

@@ -1,0 +1,4 @@
+pub mod Cappeds
+pub mod Laws
+pub mod Lots
+pub mod MemberLaws
