@@ -8,3 +8,6 @@ mod steps;
 mod tally;
 
 pub use guess::guess_prices;
+
+#[cfg(test)]
+mod tests;
