@@ -153,11 +153,17 @@ fn cells_of_two_goods(rt: HostRuntime) -> Result<(), Fail> {
     let mut list = BidList::new(rt.alloc(), 2);
     assert_eq!(rt; list.cells(), 0);
     // Of nothing and either good one lead of the other and one more, and of the two goods one lead of nothing.
-    assert_eq!(rt; cells_with(&mut list, bid(-1, Some(4), Some(4)))?, 2 + 2 + 1);
+    assert_eq!(rt;
+        cells_with(&mut list, bid(-1, Some(4), Some(4)))?,
+        2 + 2 + 1
+    );
     // A bid of positive weight counts in none.
     assert_eq!(rt; cells_with(&mut list, bid(1, Some(6), Some(6)))?, 5);
     // One level of nothing and the first good, two of either other pair.
-    assert_eq!(rt; cells_with(&mut list, bid(-1, Some(4), Some(7)))?, 3 + (2 + 2) + (1 + 1));
+    assert_eq!(rt;
+        cells_with(&mut list, bid(-1, Some(4), Some(7)))?,
+        3 + (2 + 2) + (1 + 1)
+    );
     // The same leads again.
     assert_eq!(rt; cells_with(&mut list, bid(-2, Some(4), Some(7)))?, 9);
     // What isn't offered has no lead: in a level that is there, and in a new one.
@@ -170,9 +176,15 @@ fn cells_of_two_goods(rt: HostRuntime) -> Result<(), Fail> {
 #[test]
 fn cells_of_three_goods(rt: HostRuntime) -> Result<(), Fail> {
     let mut list = BidList::new(rt.alloc(), 3);
-    assert_eq!(rt; cells_with(&mut list, bid_of_three(-1, 3, 5, 9))?, 3 * (2 * 2) + 3 * (1 * 2));
+    assert_eq!(rt;
+        cells_with(&mut list, bid_of_three(-1, 3, 5, 9))?,
+        3 * (2 * 2) + 3 * (1 * 2)
+    );
     // They share the levels of nothing and the third good, and of the first two.
-    assert_eq!(rt; cells_with(&mut list, bid_of_three(-1, 4, 6, 9))?, 8 + 8 + 3 * 3 + 2 * 3 + 4 + 4);
+    assert_eq!(rt;
+        cells_with(&mut list, bid_of_three(-1, 4, 6, 9))?,
+        8 + 8 + 3 * 3 + 2 * 3 + 4 + 4
+    );
     Ok(())
 }
 
