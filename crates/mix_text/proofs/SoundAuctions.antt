@@ -170,6 +170,7 @@ bid_more limits list bid room m =
   where
     next : (k : ℕ) → suc k ≡ k + 1
     next k = omega arith
+
     same : (k : ℕ) → k ≡ k + 0
     same k = omega arith
 
@@ -300,9 +301,9 @@ format_ok : (field : List ℕ) (format : ℕ) → format_of field ≡ Ok format 
 format_ok field format e = elim (cases_Bool (bytes_eq field (codes "1"))) [
   | inl t ↦ (let q = rw t at e in let one : 1 ≡ format = cc q in (omega arith, omega arith))
   | inr f ↦ (let q = rw f at e in elim (cases_Bool (bytes_eq field (codes "2"))) [
-      | inl u ↦ (let p = rw u at q in let two : 2 ≡ format = cc p in (omega arith, omega arith))
-      | inr g ↦ absurd (let p = rw g at q in cc p)
-    ])
+    | inl u ↦ (let p = rw u at q in let two : 2 ≡ format = cc p in (omega arith, omega arith))
+    | inr g ↦ absurd (let p = rw g at q in cc p)
+  ])
 ]
 
 header_ok : (fields : List (List ℕ)) (format : ℕ) → header_of fields ≡ Ok format → IsFormat format

@@ -124,6 +124,7 @@ no_limit limits n before b few =
     test_fails : (there many : Bool) (w : What) (rest : Option What) → (there ≡ false → many ≡ false) → rest ≡ None → cond (not there && many) (Some w) rest ≡ None
     test_fails true many w rest a e = e
     test_fails false many w rest a e = let m = a refl in rw m e
+
     new : is_among b.name (names_of before) ≡ false → length (different (names_of (before ++ (b ∷ [])))) ≤ limits.bidders → length (different (names_of before)) < limits.bidders
     new f h =
         let all = ap different (map-append (λ (y : NamedBid). y.name) before (b ∷ [])) ∙ different_snoc (names_of before) b.name in

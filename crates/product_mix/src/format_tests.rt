@@ -25,9 +25,11 @@ fn eight_goods(rt: HostRuntime) -> Result<(), Fail> {
     let text = joined(alloc, &[b"mix,2\n", EIGHT_GOODS, ONE_OF_EIGHT])?;
     let (status, sink) = call(alloc, &["solve"], text, Vec::new(alloc), 4096)?;
     assert_eq!(rt; status, 0);
-    assert!(rt; sink.bytes().starts_with(
-        b"outcome,1\ncleared\nprice,0,0,0,0,0,0,0,0\nshare,P,1,0,0,0,0,0,0,0,0\nreturn,0,1,1,1,1,1,1,1\ntight,P,A,"
-    ));
+    assert!(rt;
+        sink.bytes().starts_with(
+            b"outcome,1\ncleared\nprice,0,0,0,0,0,0,0,0\nshare,P,1,0,0,0,0,0,0,0,0\nreturn,0,1,1,1,1,1,1,1\ntight,P,A,"
+        )
+    );
     assert!(rt; sink.bytes().ends_with(b"\nend\n"));
     Ok(())
 }
@@ -62,21 +64,13 @@ fn goods(rt: HostRuntime) -> Result<(), Fail> {
         (b"mix,1\ngoods,A,B,C,D,E\n", 3, b"fault,3,end\n"),
         (b"mix,1\ngoods,A,B,C,D,E,F\n", 4, b"limit,2,goods\n"),
         (b"mix,2\ngoods,A,B,C,D,E,F,G,H\n", 3, b"fault,3,end\n"),
-        (
-            b"mix,2\ngoods,A,B,C,D,E,F,G,H,I\n",
-            4,
-            b"limit,2,goods\n",
-        ),
+        (b"mix,2\ngoods,A,B,C,D,E,F,G,H,I\n", 4, b"limit,2,goods\n"),
         (
             b"mix,2\ngoods,A,B,C,D,E,F,G,H,A\n",
             3,
             b"fault,2,repeated\n",
         ),
-        (
-            b"mix,2\ngoods,A,B,C,D,E,F,G,H,9\n",
-            3,
-            b"fault,2,name\n",
-        ),
+        (b"mix,2\ngoods,A,B,C,D,E,F,G,H,9\n", 3, b"fault,2,name\n"),
     ];
     for (text, status, output) in cases {
         assert!(rt; gives(alloc, "utility", text.to_vec(alloc)?, status, output)?);
@@ -145,7 +139,9 @@ fn numbers_of_bids(rt: HostRuntime) -> Result<(), Fail> {
 fn many_cells(alloc: Global, count: u32) -> Result<Vec<u8>, Fail> {
     let mut text = joined(alloc, &[b"mix,2\n", EIGHT_GOODS])?;
     for number in 1..=count {
-        let bid = format!(in alloc; "bid,P,-1,5,{number},{number},{number},{number},{number},{number},{number}\n")?;
+        let bid = format!(in alloc;
+            "bid,P,-1,5,{number},{number},{number},{number},{number},{number},{number}\n"
+        )?;
         text.extend_from_slice(bid.as_bytes())?;
     }
     Ok(text)

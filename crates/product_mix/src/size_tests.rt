@@ -58,7 +58,9 @@ const EIGHT_GOODS: &[u8] =
 fn many_negatives(alloc: Global) -> Result<Vec<u8>, Fail> {
     let mut text = EIGHT_GOODS.to_vec(alloc)?;
     for number in 100..200_u32 {
-        let block = format!(in alloc; "bid,P,1,{number}0,-,-,-,-,-,-,-\nbid,P,1,-,-,-,{number}1,-,-,-,-\nbid,P,1,{number}5,-,-,{number}6,-,-,-,-\nbid,P,-1,{number}0,-,-,{number}1,-,-,-,-\n")?;
+        let block = format!(in alloc;
+            "bid,P,1,{number}0,-,-,-,-,-,-,-\nbid,P,1,-,-,-,{number}1,-,-,-,-\nbid,P,1,{number}5,-,-,{number}6,-,-,-,-\nbid,P,-1,{number}0,-,-,{number}1,-,-,-,-\n"
+        )?;
         text.extend_from_slice(block.as_bytes())?;
     }
     text.extend_from_slice(b"end\n")?;
@@ -69,7 +71,9 @@ fn many_negatives(alloc: Global) -> Result<Vec<u8>, Fail> {
 fn more_bidders(alloc: Global) -> Result<Vec<u8>, Fail> {
     let mut text = EIGHT_GOODS.to_vec(alloc)?;
     for number in 0..256_u32 {
-        let bid = format!(in alloc; "bid,B{number},1,{number},{number},{number},{number},{number},{number},{number},{number}\n")?;
+        let bid = format!(in alloc;
+            "bid,B{number},1,{number},{number},{number},{number},{number},{number},{number},{number}\n"
+        )?;
         text.extend_from_slice(bid.as_bytes())?;
     }
     text.extend_from_slice(b"end\n")?;
@@ -87,7 +91,13 @@ fn many_negative_bids(rt: HostRuntime) -> Result<(), Fail> {
 #[test]
 fn many_bids_for_eight_goods(rt: HostRuntime) -> Result<(), Fail> {
     let alloc = rt.alloc();
-    let bids = text_of(alloc, EIGHT_GOODS, b"bid,P,1,9,8,7,6,5,4,3,2\n", 400, b"end\n")?;
+    let bids = text_of(
+        alloc,
+        EIGHT_GOODS,
+        b"bid,P,1,9,8,7,6,5,4,3,2\n",
+        400,
+        b"end\n",
+    )?;
     assert!(rt; all_done(alloc, &bids, b"price,1,2,3,4,5,6,7,8\n")?);
     Ok(())
 }
