@@ -1,4 +1,4 @@
-// Guesses in markets of three bidders for one unit of either of two goods, whose least prices were worked out by hand.
+// Guesses in markets of two bidders for two units each, where there is one of either of two goods. The least prices were worked out by hand.
 ghost use Rattle.std.specs.Prelude.{◌≡◌, IfOk};
 ghost use Rattle.mix_num.specs.Sellers.{AreAmounts, IsAmount};
 ghost use Rattle.mix_validity.specs.ValidLists.{book_of};
@@ -23,7 +23,7 @@ fn pair(first: i64, second: i64) -> Bundle
     both
 }
 
-/// A bidder for one unit of one of two goods, whichever leaves more.
+/// A bidder for two units of one of two goods, whichever leaves more.
 fn bidder(alloc: Global, first: i64, second: i64) -> Result<ValidList, Fail>
     requires first { IsAmount first }
     requires second { IsAmount second }
@@ -33,39 +33,32 @@ fn bidder(alloc: Global, first: i64, second: i64) -> Result<ValidList, Fail>
     values.push(Some(first));
     values.push(Some(second));
     let mut list = BidList::new(alloc, 2);
-    list.push(Bid { weight: 1, values }).ok().ok_or("memory")?;
+    list.push(Bid { weight: 2, values }).ok().ok_or("memory")?;
     Ok(validate(alloc, list).ok().ok_or("not convex")?)
 }
 
 #[test]
 fn guesses_well(rt: HostRuntime) -> Result<(), Fail> {
-    // For each of three bidders what it offers for the two goods, then the reserves, then the least prices for one unit of each.
+    // The reserves, what each bidder offers for the two goods, and the least prices.
     let rows = [
-        ((10, 0), (7, 0), (0, 4), (0, 0), (7, 0)),
-        ((10, 0), (7, 0), (0, 4), (800, 100), (800, 100)),
-        ((5, 5), (5, 5), (5, 5), (0, 0), (5, 5)),
-        ((5, 5), (5, 5), (0, 0), (0, 0), (0, 0)),
+        ((0, 0), (10, 0), (0, 4), (10, 4)),
+        ((800, 100), (10, 0), (0, 4), (800, 100)),
+        ((0, 0), (9, 0), (0, 0), (9, 0)),
+        ((0, 0), (5, 5), (0, 0), (0, 0)),
+        ((0, 0), (10, 8), (10, 8), (10, 8)),
+        ((0, 3), (900_000, 300_000), (0, 400_000), (900_000, 400_000)),
         (
-            (1_000_000, 0),
-            (999_999, 0),
-            (0, 500_000),
-            (0, 3),
-            (999_999, 3),
-        ),
-        (
-            (1_000_000, 1),
-            (1_000_000, 1),
-            (1_000_000, 1),
             (0, 0),
             (1_000_000, 1),
+            (1_000_000, 999_999),
+            (1_000_000, 999_999),
         ),
     ];
-    for (one, two, three, reserve, prices) in rows {
+    for (reserve, one, two, prices) in rows {
+        let seller = Seller::new(&pair(1, 1), &pair(reserve.0, reserve.1));
         let mut members = Vec::new(rt.alloc());
         members.push(bidder(rt.alloc(), one.0, one.1)?)?;
         members.push(bidder(rt.alloc(), two.0, two.1)?)?;
-        members.push(bidder(rt.alloc(), three.0, three.1)?)?;
-        let seller = Seller::new(&pair(1, 1), &pair(reserve.0, reserve.1));
         let guess = guess_prices(&Market::new(members, seller));
         assert_eq!(rt; guess.as_slice(), [prices.0, prices.1].as_slice());
     }
