@@ -122,13 +122,18 @@ fn the_greatest_sizes(rt: HostRuntime) -> Result<(), Fail> {
     Ok(())
 }
 
-// As many bytes as a text may have; all after the last row are blank lines.
+// So many line feeds.
+fn blank_lines(alloc: Global, count: usize) -> Result<Vec<u8>, Fail> {
+    Ok(vec![in alloc; b'\n'; count]?)
+}
+
+// As many bytes as a text may have: rows of 47 bytes, and blank lines after them.
 #[test]
 fn the_longest_text(rt: HostRuntime) -> Result<(), Fail> {
     let alloc = rt.alloc();
-    let mut text = vec![in alloc; b'\n'; 16_777_216]?;
-    let rows = b"mix,1\ngoods,A\nsupply,1\nreserve,0\nbid,P,1,5\nend\n";
-    text[..rows.len()].copy_from_slice(rows);
+    let mut text = b"mix,1\ngoods,A\nsupply,1\nreserve,0\nbid,P,1,5\nend\n".to_vec(alloc)?;
+    text.extend_from_slice(&blank_lines(alloc, 16_777_169)?)?;
+    assert_eq!(rt; text.len(), 16_777_216);
     let (status, sink) = call_at_once(alloc, "prices", text)?;
     assert_eq!(rt; status, 0);
     assert_eq!(rt; sink.bytes(), b"price,0\nend\n".as_slice());
