@@ -347,13 +347,19 @@ fn a_printed_refusal_is_true(rt: HostRuntime) -> Result<(), Fail> {
     Ok(())
 }
 
-// The trial auction of 1 by itself, and as a text that is handed to `prices`: the prices are the same.
+// The trial auction of 1 by itself, and as a text that is handed to `prices`, which looks near a guess, and to `trail`, which climbs
+// from the reserves: the prices are the same.
 #[test]
 fn a_trial_auction_is_priced(rt: HostRuntime) -> Result<(), Fail> {
     let alloc = rt.alloc();
-    let text = print_auction(alloc, &make(alloc, 1)?)?;
+    let auction = make(alloc, 1)?;
+    let text = print_auction(alloc, &auction)?;
     let (status, priced) = call(alloc, &["prices"], text, Vec::new(alloc), 4096)?;
     assert_eq!(rt; status, 0);
+    let text = print_auction(alloc, &auction)?;
+    let (status, walked) = call(alloc, &["trail"], text, Vec::new(alloc), 65_536)?;
+    assert_eq!(rt; status, 0);
+    assert!(rt; walked.bytes().ends_with(priced.bytes()));
     let head = b"trial,1\nbidders,40\nbids,1280\nnegatives,160\n";
     let start = text_of(alloc, head, priced.bytes(), 1, b"")?;
     let length = start.len().saturating_sub(b"end\n".len());
