@@ -16,3 +16,4 @@ pub mod Steps
 pub mod Sound
 pub mod SoundAuctions
 pub mod AuctionNames
+pub mod TieOrders

@@ -15,8 +15,10 @@ use Rattle.mix_bids.specs.declared.bid.Bid.{Bid}
 use Rattle.mix_text.specs.Rows.{RestText, RowText}
 use Rattle.mix_text.specs.Spelling.{is_name, spelled_name}
 use Rattle.mix_text.specs.Names.{AreNames, different, is_among}
+use Rattle.mix_num.specs.Orders.{places}
 use Rattle.mix_num.specs.Sellers.{AreAmounts}
 use Rattle.mix_text.specs.Auctions.{AuctionText, IsAuction, IsBook}
+use Rattle.mix_text.specs.Orders.{IsTieOrder}
 use Rattle.mix_text.specs.Bidders.{with_bid}
 use Rattle.mix_text.specs.Formats.{AreLimits, IsFormat, is_past, limits_of}
 use Rattle.mix_text.specs.Limits.{BidsMeet, MeetsLimits}
@@ -270,10 +272,11 @@ each_list n bids P h =
     (each_among (λ name. P (list_under n name bids)) (different (names_of bids)) (names_of bids) (λ m a. sym (among_different m (names_of bids)) ∙ a) h)
 
 -- the bidders of few bids make an auction with goods and amounts
-pub made : (format : ℕ) (limits : Limits) (goods : List (List ℕ)) (supply reserve : List ℤ) (bids : List NamedBid) → IsFormat format → AreLimits limits
+pub made : (format : ℕ) (limits : Limits) (goods : List (List ℕ)) (supply reserve : List ℤ) (bids : List NamedBid) (order : List ℕ) → IsFormat format → AreLimits limits
     → AreGoods limits goods → AreAmounts (length goods) supply → AreAmounts (length goods) reserve → AreFew limits (length goods) bids
-    → IsAuction (record { format = format; goods = goods; supply = supply; reserve = reserve; bidders = bidders_of (length goods) bids })
-made format limits goods supply reserve bids is are g s r few =
+    → IsTieOrder (length (bidders_of (length goods) bids)) order → (format ≡ 1 → order ≡ places (length (bidders_of (length goods) bids)))
+    → IsAuction (record { format = format; goods = goods; supply = supply; reserve = reserve; bidders = bidders_of (length goods) bids; order = order })
+made format limits goods supply reserve bids order is are g s r few ordered first =
     let n = length goods in
     let names = names_same n bids in
     record {
@@ -294,6 +297,8 @@ made format limits goods supply reserve bids is are g s r few =
         few = let h = (few.under m).bids in let most = are.bids in omega arith;
         bids = bids_of_name n m bids few.each;
       });
+      order = ordered;
+      first_format = first;
     }
 
 -- the format that is read is one
@@ -318,7 +323,7 @@ first_ok rows format e =
     header_ok r.0.fields format (placed_ok r.0.number (header_of r.0.fields) format r.2)
 
 -- an auction that is read is one
-pub auction_ok : (rows : List RowText) (format : ℕ) (limits : Limits) (n : ℕ) (goods : List (List ℕ)) (supply reserve : List ℤ) (bidders : List (List ℕ × Book)) (place : ℕ)
+pub auction_ok : (rows : List RowText) (format : ℕ) (limits : Limits) (n : ℕ) (goods : List (List ℕ)) (supply reserve : List ℤ) (bidders : List (List ℕ × Book)) (order : List ℕ) (place : ℕ)
     → AreLimits limits
     → n ≡ length goods
     → read_at rows 0 header_of ≡ Ok format
@@ -326,21 +331,24 @@ pub auction_ok : (rows : List RowText) (format : ℕ) (limits : Limits) (n : ℕ
     → read_at rows 2 (numbers_of (codes "supply") n (pos 0) (pos 1000000)) ≡ Ok supply
     → read_at rows 3 (numbers_of (codes "reserve") n (pos 0) (pos 1000000)) ≡ Ok reserve
     → ReadsBids limits n rows bidders place
-    → IsAuction (record { format = format; goods = goods; supply = supply; reserve = reserve; bidders = bidders })
-auction_ok rows format limits n goods supply reserve bidders place are count a b c d e =
+    → IsTieOrder (length bidders) order
+    → (format ≡ 1 → order ≡ places (length bidders))
+    → IsAuction (record { format = format; goods = goods; supply = supply; reserve = reserve; bidders = bidders; order = order })
+auction_ok rows format limits n goods supply reserve bidders order place are count a b c d e ordered first =
     let r = then_ok (row_at rows 1) (goods_at limits) goods b in
     let few = bids_ok limits n (length rows + 1) [] (drop 4 rows) (e.bids, drop place rows) e.read (none_yet limits n) in
-    let P : ℕ → Type 0 = λ m. IsAuction (record { format = format; goods = goods; supply = supply; reserve = reserve; bidders = bidders_of m e.bids }) in
-    let at_length = made format limits goods supply reserve e.bids (first_ok rows format a) are (goods_ok limits r.0 goods r.2) (subst (λ (m : ℕ). AreAmounts m supply) count (amounts_at rows 2 (codes "supply") n supply c))
+    let R : List (List ℕ × Book) → Type 0 = λ z. IsTieOrder (length z) order → (format ≡ 1 → order ≡ places (length z)) → IsAuction (record { format = format; goods = goods; supply = supply; reserve = reserve; bidders = z; order = order }) in
+    let P : ℕ → Type 0 = λ m. R (bidders_of m e.bids) in
+    let at_length = made format limits goods supply reserve e.bids order (first_ok rows format a) are (goods_ok limits r.0 goods r.2) (subst (λ (m : ℕ). AreAmounts m supply) count (amounts_at rows 2 (codes "supply") n supply c))
     (subst (λ (m : ℕ). AreAmounts m reserve) count (amounts_at rows 3 (codes "reserve") n reserve d)) (subst (λ (m : ℕ). AreFew limits m e.bids) count few) in
-    subst (λ (z : List (List ℕ × Book)). IsAuction (record { format = format; goods = goods; supply = supply; reserve = reserve; bidders = z })) (sym e.gathered) (subst P (sym count) at_length)
+    subst R (sym e.gathered) (subst P (sym count) at_length) ordered first
 
 -- ---- limits
 
 -- few bids: their bidders keep to the limits
-bids_meet : (format : ℕ) (goods : List (List ℕ)) (supply reserve : List ℤ) (n : ℕ) (bids : List NamedBid) → AreGoods (limits_of format) goods → AreFew (limits_of format) n bids
-    → MeetsLimits (record { format = format; goods = goods; supply = supply; reserve = reserve; bidders = bidders_of n bids })
-bids_meet format goods supply reserve n bids g few = record {
+bids_meet : (format : ℕ) (goods : List (List ℕ)) (supply reserve : List ℤ) (n : ℕ) (bids : List NamedBid) (order : List ℕ) → AreGoods (limits_of format) goods → AreFew (limits_of format) n bids
+    → MeetsLimits (record { format = format; goods = goods; supply = supply; reserve = reserve; bidders = bidders_of n bids; order = order })
+bids_meet format goods supply reserve n bids order g few = record {
   goods = g.few;
   bidders = let h = few.names in let l = bidders_length n bids in omega arith;
   lists = each_list n bids (BidsMeet (limits_of format)) (λ m a. few.under m);
@@ -363,4 +371,4 @@ meets_limits rows read e =
     let bids = then_ok (bids_from limits n next [] (drop 4 rows)) _ read reserve.2 in
     let row = then_ok (row_at rows 1) (goods_at limits) goods.0 goods.1 in
     let few = bids_ok limits n next [] (drop 4 rows) bids.0 bids.1 (none_yet limits n) in
-    meet_when_read _ _ read bids.2 (bids_meet header.0 goods.0 supply.0 reserve.0 n bids.0.0 (goods_ok limits row.0 goods.0 row.2) few)
+    meet_when_read _ _ read bids.2 (bids_meet header.0 goods.0 supply.0 reserve.0 n bids.0.0 _ (goods_ok limits row.0 goods.0 row.2) few)

@@ -8,3 +8,4 @@ pub mod Auctions
 pub mod AuctionTexts
 pub mod Reading
 pub mod Limits
+pub mod Orders

@@ -11,6 +11,7 @@ use Rattle.mix_text.specs.Spelling.{spelled_name, spelled_number, between}
 use Rattle.mix_text.specs.Bidders.{with_bid}
 use Rattle.mix_text.specs.Formats.{is_past, limits_of}
 use Rattle.mix_text.specs.Names.{different, is_among}
+use Rattle.mix_num.specs.Orders.{places}
 use Rattle.mix_text.specs.Auctions.{AuctionText}
 use Rattle.mix_text.specs.declared.faults.Code.{Code}
 use Rattle.mix_text.specs.declared.faults.Code.TheVariants as code
@@ -196,7 +197,7 @@ reading_of rows =
     read_at rows 2 (numbers_of (codes "supply") (length goods) (pos 0) (pos 1000000)) >>= λ supply.
     read_at rows 3 (numbers_of (codes "reserve") (length goods) (pos 0) (pos 1000000)) >>= λ reserve.
     bids_from (limits_of format) (length goods) (length rows + 1) [] (drop 4 rows) >>= λ read.
-    Ok (record { format = format; goods = goods; supply = supply; reserve = reserve; bidders = bidders_of (length goods) read.0 }, record { rows = read.1; next = length rows + 1 })
+    Ok (record { format = format; goods = goods; supply = supply; reserve = reserve; bidders = bidders_of (length goods) read.0; order = places (length (bidders_of (length goods) read.0)) }, record { rows = read.1; next = length rows + 1 })
 
 -- no row is left, or the first that is left is a fault
 abbrev pub nothing_after : List RowText → Result (Unit {0}) Fault

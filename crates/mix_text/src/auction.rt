@@ -5,12 +5,14 @@ ghost use Rattle.mix_text.specs.Bidders.{list_at, name_at};
 
 use crate::bidders::Bidders;
 use crate::names::Names;
+use crate::order::Order;
 use crate::spelling::Name;
 use mix_bids::BidList;
 use mix_num::{Bundle, Prices};
 
 /// An auction: 1 to 8 goods by name, for each a supply and a reserve price from 0 to 1,000,000, and at most 256
 /// bidders by name, each with 1 to 400 bids over these goods. Its format is 1 or 2, and says which limits its text keeps.
+/// The order is the tie order: where bids tie, who comes first in it is served first. In format 1 it is that of first appearance.
 #[derive(Drop)]
 pub struct Auction {
     pub format: u8,
@@ -18,7 +20,8 @@ pub struct Auction {
     pub supply: Bundle,
     pub reserve: Prices,
     pub bidders: Bidders,
-    ghost sound: { IsAuction (record { format = format; goods = goods; supply = supply.items; reserve = reserve.items; bidders = bidders }) },
+    pub order: Order,
+    ghost sound: { IsAuction (record { format = format; goods = goods; supply = supply.items; reserve = reserve.items; bidders = bidders; order = order }) },
 }
 
 impl Auction {

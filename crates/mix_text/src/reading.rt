@@ -1,6 +1,7 @@
 // The auction of a text: its rows in order, up to the first that has a fault or passes a limit.
 ghost use Rattle.std.specs.Prelude.{◌≡◌, ◌≢◌, ◌≤◌, ◌<◌, ◌+◌, ◌∷◌, ◌++◌, [], List, ℕ, Some, None, Ok, Err, length, drop, codes, pos, IfOk, IfErr, OnOk};
 ghost use Rattle.mix_bids.specs.Bids.{IsBid};
+ghost use Rattle.mix_num.specs.Orders.{places as places_of};
 ghost use Rattle.mix_text.specs.Bidders.{place_of};
 ghost use Rattle.mix_text.specs.AuctionTexts.{auction_text};
 ghost use Rattle.mix_text.specs.Formats.{AreLimits};
@@ -14,6 +15,7 @@ use crate::bidders::Bidders;
 use crate::faults::{Code, Fault, Limit, TextError, What};
 use crate::formats::{Limits, limits_of};
 use crate::names::Names;
+use crate::order::Order;
 use crate::rest::Rest;
 use crate::row::Row;
 use crate::row_list::rows;
@@ -222,6 +224,17 @@ fn read_first(rows: &[Row]) -> Result<u8, TextError>
     }
 }
 
+// The bidders in order of first appearance, as they are served where no other order is stated.
+fn first_order(alloc: Global, bidders: &Bidders) -> Result<Order, TextError>
+    ensures order { IfOk result (λ order. order ≡ places_of (length bidders.now)) }
+    ensures wrong { IfErr result (λ e. e ≡ TextError.Memory) }
+{
+    match Order::of_appearance(alloc, bidders.count()) {
+        Ok(order) => Ok(order),
+        Err(Memory) => Err(TextError::Memory),
+    }
+}
+
 /// An auction, and the place after its last row.
 #[derive(Drop)]
 struct ReadRows {
@@ -243,6 +256,7 @@ fn read_rows(alloc: Global, rows: &[Row]) -> Result<ReadRows, TextError>
     let supply = read_amounts(rows, 2, b"supply", count)?;
     let reserve = read_amounts(rows, 3, b"reserve", count)?;
     let gathered = read_bids(alloc, &limits, rows, count)?;
+    let order = first_order(alloc, &gathered.bidders)?;
     Ok(ReadRows {
         auction: Auction {
             format,
@@ -250,6 +264,7 @@ fn read_rows(alloc: Global, rows: &[Row]) -> Result<ReadRows, TextError>
             supply,
             reserve,
             bidders: gathered.bidders,
+            order,
         },
         after: gathered.after,
     })

@@ -1,7 +1,9 @@
-use Rattle.std.proofs.Common.{◌∙◌, sym, ap, arith, Result}
+use Rattle.std.proofs.Common.{◌∙◌, sym, subst, ap, arith, Result}
 use Rattle.mix_text.specs.Rows.{RowText}
 use Rattle.mix_text.specs.Reading.{◌>>=◌, goods_at}
 use Rattle.mix_text.specs.declared.faults.TextError.{TextError}
+use Rattle.mix_text.specs.Orders.{IsTieOrder}
+use Rattle.mix_text.proofs.TieOrders.{as_they_stand}
 use Rattle.mix_text.proofs.SoundAuctions.{auction_ok, goods_ok}
 use Rattle.mix_text.proofs.reading.read_rows.Goals as goal
 
@@ -17,4 +19,8 @@ read_bids-requires-clause-goods c = let goods = goods_ok _ _ _ c.in_ok-goods.ens
 pub invariant_of-result : goal.invariant_of-result
 invariant_of-result c =
     let goods = ap (λ (r : Result RowText TextError). r >>= goods_at c.limits_of-limits.result) c.in_ok-row_or_end.ensures.read ∙ c.in_ok-goods.ensures.read in
-    record { sound = auction_ok c.args.rows.now _ _ _ _ _ _ _ c.in_ok-gathered.gathered.after c.limits_of-limits.ensures.sound c.len-count.ensures (sym c.in_ok-format.ensures) goods c.in_ok-supply.ensures.read c.in_ok-reserve.ensures.read c.in_ok-gathered.ensures.read }
+    let order = c.in_ok-order.ensures.order in
+    record {
+      sound = auction_ok c.args.rows.now _ _ _ _ _ _ _ _ c.in_ok-gathered.gathered.after c.limits_of-limits.ensures.sound c.len-count.ensures (sym c.in_ok-format.ensures) goods c.in_ok-supply.ensures.read c.in_ok-reserve.ensures.read c.in_ok-gathered.ensures.read
+      (subst (IsTieOrder _) (sym order) (as_they_stand _)) (λ e. order);
+    }

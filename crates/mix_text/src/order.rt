@@ -1,0 +1,76 @@
+// The order in which the bidders are served.
+ghost use Rattle.std.specs.Prelude.{◌≡◌, ◌<◌, ◌++◌, ◌∷◌, [], length, IfOk, OnErr, OnOk};
+ghost use Rattle.mix_num.specs.Orders.{place_at, places as places_of};
+
+use mix_num::Memory;
+use std::alloc::Global;
+use std::marker::Model;
+
+/// A tie order: the places of the bidders, from 0, in the order in which they are served.
+#[derive(Drop)]
+pub struct Order {
+    places: Vec<usize>,
+}
+
+impl Model for Order {
+    ghost use Rattle.std.specs.Prelude.{List, ℕ};
+
+    ghost Value = { List ℕ };
+
+    ghost view = { λ order. order.places.items };
+}
+
+impl Order {
+    /// The order of nobody.
+    pub fn new(alloc: Global) -> Order
+        ensures { result ≡ [] }
+    {
+        Order {
+            places: Vec::new(alloc),
+        }
+    }
+
+    /// So many bidders as they stand: the order of first appearance.
+    pub fn of_appearance(alloc: Global, count: usize) -> Result<Order, Memory>
+        ensures { IfOk result (λ order. order ≡ places_of count) }
+    {
+        let mut order = Order::new(alloc);
+        for place in 0..count {
+            order.push(place)?;
+        }
+        Ok(order)
+    }
+
+    /// Adds the place of a bidder, who is served last. Where memory is wanting, the order stays as it was.
+    pub fn push(&mut self, place: usize) -> Result<(), Memory>
+        ensures ok { OnOk result (self.new ≡ self.old ++ place ∷ []) }
+        ensures err { OnErr result (self.new ≡ self.old) }
+    {
+        let Ok(()) = self.places.push(place) else {
+            return Err(Memory);
+        };
+        Ok(())
+    }
+
+    /// The places in order.
+    pub fn places(&self) -> &[usize]
+        ensures { result.now ≡ self.now }
+    {
+        &self.places
+    }
+
+    /// The place of the bidder who is served at a turn, from 0.
+    pub fn place(&self, turn: usize) -> usize
+        requires { turn < length self.now }
+        ensures { result ≡ place_at self.now turn }
+    {
+        self.places[turn]
+    }
+
+    /// How many bidders are served.
+    pub fn count(&self) -> usize
+        ensures { result ≡ length self.now }
+    {
+        self.places.len()
+    }
+}
