@@ -1,6 +1,6 @@
 -- Which outcomes of an auction are true.
 use Rattle.std.specs.Prelude.{◌≡◌, ◌<◌, ◌+◌, ◌*◌, ℕ, ℤ, List, length, map, get_or, All}
-use Rattle.mix_num.specs.Orders.{place_at, places}
+use Rattle.mix_num.specs.Orders.{place_at}
 use Rattle.mix_num.specs.Sums.{dot_of}
 use Rattle.mix_num.specs.declared.pair.Tight.{Tight}
 use Rattle.mix_clearing.specs.Certificates.{IsFirstTightPair, IsTightPair}
@@ -12,10 +12,6 @@ use Rattle.mix_answer.specs.declared.outcome.Answer.{Answer}
 use Rattle.mix_answer.specs.declared.outcome.Outcome.{Outcome}
 use Rattle.mix_answer.specs.declared.outcome.Outcome.TheVariants.{Cleared, Refused}
 
--- the order in which the bidders are served: that of first appearance
-abbrev pub order_of : AuctionText → List ℕ
-order_of a = places (length a.bidders)
-
 -- what the bidders get
 abbrev pub bundles_of : Answer → List (List ℤ)
 bundles_of answer = map (λ share. share.bundle.items) answer.shares
@@ -24,23 +20,23 @@ bundles_of answer = map (λ share. share.bundle.items) answer.shares
 abbrev pub pair_of : ℕ → Answer → ℕ → ℕ → Tight
 pair_of n answer k j = get_or answer.tights (k * n + j) (record { upper = 0; lower = 0 })
 
--- for each bidder, in the order in which they are served, and for each good the pair is tight
+-- for each bidder, in tie order, and for each good the pair is tight
 abbrev pub HaveTights : AuctionText → Answer → Type 0
 HaveTights a answer = (k j : ℕ) → k < length a.bidders → j < length a.goods
-    → let pair = pair_of (length a.goods) answer (place_at (order_of a) k) j in
-    IsTightPair (utilities_of a.bidders) a.supply a.reserve answer.prices.items (order_of a) (bundles_of answer) k j pair.upper pair.lower
+    → let pair = pair_of (length a.goods) answer (place_at a.order k) j in
+    IsTightPair (utilities_of a.bidders) a.supply a.reserve answer.prices.items a.order (bundles_of answer) k j pair.upper pair.lower
 
 -- and is the first tight pair
 abbrev pub HaveFirstTights : AuctionText → Answer → Type 0
 HaveFirstTights a answer = (k j : ℕ) → k < length a.bidders → j < length a.goods
-    → let pair = pair_of (length a.goods) answer (place_at (order_of a) k) j in
-    IsFirstTightPair (utilities_of a.bidders) a.supply a.reserve answer.prices.items (order_of a) (bundles_of answer) k j pair.upper pair.lower
+    → let pair = pair_of (length a.goods) answer (place_at a.order k) j in
+    IsFirstTightPair (utilities_of a.bidders) a.supply a.reserve answer.prices.items a.order (bundles_of answer) k j pair.upper pair.lower
 
 -- a true answer: each bidder's list is convex; the prices are the least clearing prices, and the bundles and returns clear there and keep
 -- the tie rule; each payment is what the bundle costs; and the pairs are tight
 pub record IsTrueAnswer (a : AuctionText) (answer : Answer) : Type 0 where
   pub convex : AreConvex a.bidders
-  pub solution : IsSolution (utilities_of a.bidders) a.supply a.reserve (order_of a) answer.prices.items (bundles_of answer) answer.returns.items
+  pub solution : IsSolution (utilities_of a.bidders) a.supply a.reserve a.order answer.prices.items (bundles_of answer) answer.returns.items
   pub payments : All (λ share. share.payment ≡ dot_of answer.prices.items share.bundle.items) answer.shares
   pub tights : HaveTights a answer
 
