@@ -31,7 +31,7 @@ pub fn descend_near<D: Convex, L: Ledger>(
 {
     let mut margin = 0;
     loop {
-        let start = below(guess, margin, market.seller().reserve());
+        let start = start_below(market, guess, margin);
         let prices = descend(market, &start, steps);
         if rises_where_fallen(market, &prices) {
             return prices;
@@ -46,6 +46,16 @@ fn wider(margin: i64) -> i64
     ensures { (margin <ℤ result) × (result ≤ℤ pos 16000000) }
 {
     (8 * margin).max(1)
+}
+
+/// Where the climb begins: below the guess by the margin, and never below the reserves.
+fn start_below<D: Convex>(market: &Market<D>, guess: &Prices, margin: i64) -> Prices
+    requires guess { AreWithin 1000000 (goods_of market.now) guess.now.items }
+    requires margin { (pos 0 ≤ℤ margin) × (margin ≤ℤ pos 16000000) }
+    ensures size { length result.items ≡ length guess.now.items }
+    ensures value { (k : ℕ) → k < length guess.now.items → get_or result.items k (pos 0) ≡ int_max (get_or guess.now.items k (pos 0) -ℤ margin) (get_or (reserves_of market.now) k (pos 0)) }
+{
+    below(guess, margin, market.seller().reserve())
 }
 
 /// For each good the guess less the margin, or the reserve where that is greater.

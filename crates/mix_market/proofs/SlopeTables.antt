@@ -1,5 +1,5 @@
 -- Tables of falls and of slopes: one member more, and one set of goods more.
-use Rattle.std.proofs.Common.{◌≡◌, ◌≢◌, ◌∙◌, ℕ, ◌+◌, ◌*◌, ◌<◌, ◌≤◌, Bool, true, false, ltb, List, ℤ, pos, ◌+ℤ◌, ◌-ℤ◌, ◌≤ℤ◌, cond, refl, arith, ap, below_more}
+use Rattle.std.proofs.Common.{◌≡◌, ◌≢◌, ◌∙◌, ℕ, ◌+◌, ◌*◌, ◌<◌, ◌≤◌, Bool, true, false, ltb, List, ℤ, pos, ◌+ℤ◌, ◌-ℤ◌, ◌≤ℤ◌, ◌^◌, ◌/◌, cond, sym, subst, refl, arith, ap, below_more}
 use Rattle.std.proofs.lemmas.Int.{ints, clamps}
 use Rattle.std.proofs.lemmas.Bool.{ltb-true, ltb-false}
 use Rattle.mix_num.specs.Ranges.{Lies}
@@ -7,6 +7,8 @@ use Rattle.mix_num.specs.Tables.{number_of}
 use Rattle.mix_num.specs.Subsets.{lies_in, sizes, subset_sum}
 use Rattle.mix_num.proofs.Additions.{sum_to-zero}
 use Rattle.std.specs.Int.{int_max}
+use Rattle.mix_num.specs.Moves.{IsSetOfGoods}
+use Rattle.mix_market.proofs.GoodsSets.{even_goods, even_of, half_goods}
 
 -- in a table of zeros all sums are 0
 pub no_parts : (table : List ℤ) (set : ℕ) → ((k : ℕ) → number_of table k ≡ pos 0) → subset_sum table set ≡ pos 0
@@ -50,3 +52,13 @@ one_done old new f i set by e is sum rest d = record {
       (let here = ap (number_of new) e in let own = ap f e in let zero = ap (number_of old) e ∙ next_zero old f i d in omega (arith, ints));
   others = λ other h. rest other (λ q. h i (omega arith) (q ∙ e)) ∙ d.others other (λ k l. h k (omega arith));
 }
+
+-- all sets of n goods are done
+pub goods_done : (n : ℕ) (table : List ℤ) (f : ℕ → ℤ) (i : ℕ) → i ≡ 2 ^ n → AreDone table f i → (set : ℕ) → IsSetOfGoods n set → number_of table set ≡ f set
+goods_done n table f i all d set goods =
+    let below = half_goods n set goods in
+    let even = even_of set goods.1 in
+    ap (number_of table) even ∙ d.done (set / 2) (omega arith) ∙ ap f (sym even)
+
+pub others_done : (n : ℕ) (table : List ℤ) (f : ℕ → ℤ) (i : ℕ) → i ≡ 2 ^ n → AreDone table f i → (set : ℕ) → (IsSetOfGoods n set → ⊥) → number_of table set ≡ pos 0
+others_done n table f i all d set other = d.others set (λ k l e. other (subst (IsSetOfGoods n) (sym e) (even_goods n k (omega arith))))

@@ -1,7 +1,6 @@
-use Rattle.std.proofs.Common.{sym, of_z, ◌≡◌, ◌∙◌, ℕ, ◌<◌, List, length, get_or, ℤ, pos, ◌-ℤ◌, arith, ap, refl, to_z, w64}
+use Rattle.std.proofs.Common.{sym, of_z, ◌∙◌, pos, ◌-ℤ◌, arith, refl, to_z, w64}
 use Rattle.std.proofs.lemmas.Int.{ints, clamps}
 use Rattle.std.proofs.lemmas.Bool.{false≢true}
-use Rattle.std.specs.Int.{int_max}
 use Rattle.mix_num.specs.Vectors.{with_null}
 use Rattle.mix_law.proofs.Lattice.{over_is}
 use Rattle.mix_market.specs.Markets.{goods_of, reserves_of}
@@ -12,52 +11,30 @@ use Rattle.mix_descent.proofs.near.descend_near.Goals as goal
 pub descend-prices-requires : goal.descend-prices-requires
 descend-prices-requires g c =
     let market = c.args.market.now in
-    let guess = c.args.guess.now.items in
-    let reserve : c.reserve.result.now.items ≡ reserves_of market = c.reserve.ensures.value ∙ ap (λ seller. seller.reserve.items) c.seller.ensures in
-    let start = c.below-start.result.items in
-    let margin = to_z w64 c.loop-prices.margin-bits in
-    let value : (k : ℕ) → k < length guess → get_or start k (pos 0) ≡ int_max (get_or guess k (pos 0) -ℤ margin) (get_or (reserves_of market) k (pos 0)) =
-    λ k h. c.below-start.ensures.value k h ∙ ap (λ (r : List ℤ). int_max (get_or guess k (pos 0) -ℤ margin) (get_or r k (pos 0))) reserve in
-    start_within (goods_of market) guess (reserves_of market) start margin c.requires.0 c.below-start.ensures.size value c.requires (reserves_within market) c.loop-prices.invariant.0
+    let start = c.start_below-start in
+    start_within (goods_of market) c.args.guess.now.items (reserves_of market) start.result.items _ c.requires.0 start.ensures.size start.ensures.value c.requires (reserves_within market) c.loop-prices.invariant.0
 
 pub returns-then-rises_where_fallen-clause-least : goal.returns-then-rises_where_fallen-clause-least
 returns-then-rises_where_fallen-clause-least g c =
     let market = c.args.market.now in
-    let guess = c.args.guess.now.items in
-    let reserve : c.reserve.result.now.items ≡ reserves_of market = c.reserve.ensures.value ∙ ap (λ seller. seller.reserve.items) c.seller.ensures in
-    let start = c.below-start.result.items in
-    let margin = to_z w64 c.loop-prices.margin-bits in
-    let value : (k : ℕ) → k < length guess → get_or start k (pos 0) ≡ int_max (get_or guess k (pos 0) -ℤ margin) (get_or (reserves_of market) k (pos 0)) =
-    λ k h. c.below-start.ensures.value k h ∙ ap (λ (r : List ℤ). int_max (get_or guess k (pos 0) -ℤ margin) (get_or r k (pos 0))) reserve in
-    let above = start_above (goods_of market) guess (reserves_of market) start margin c.requires.0 c.below-start.ensures.size value in
-    least_above_floor (market_keeps market) (with_null (reserves_of market)) (with_null start) _ refl c.descend-prices.ensures.least above (c.rises_where_fallen.ensures.0 c.if-rises_where_fallen.true)
+    let start = c.start_below-start in
+    let above = start_above (goods_of market) c.args.guess.now.items (reserves_of market) start.result.items _ c.requires.0 start.ensures.size start.ensures.value in
+    least_above_floor (market_keeps market) (with_null (reserves_of market)) (with_null start.result.items) _ refl c.descend-prices.ensures.least above (c.rises_where_fallen.ensures.0 c.if-rises_where_fallen.true)
 
 -- a margin of 2,000,000 leaves the reserves alone, from where none may fall
 pub wider-margin-requires : goal.wider-margin-requires
 wider-margin-requires g c =
-    let market = c.args.market.now in
-    let guess = c.args.guess.now.items in
-    let reserve : c.reserve.result.now.items ≡ reserves_of market = c.reserve.ensures.value ∙ ap (λ seller. seller.reserve.items) c.seller.ensures in
-    let start = c.below-start.result.items in
-    let margin = to_z w64 c.loop-prices.margin-bits in
-    let value : (k : ℕ) → k < length guess → get_or start k (pos 0) ≡ int_max (get_or guess k (pos 0) -ℤ margin) (get_or (reserves_of market) k (pos 0)) =
-    λ k h. c.below-start.ensures.value k h ∙ ap (λ (r : List ℤ). int_max (get_or guess k (pos 0) -ℤ margin) (get_or r k (pos 0))) reserve in
-    let few = margin_left (goods_of market) guess (reserves_of market) start margin c.requires.0 c.below-start.ensures.size value (market_keeps market) c.requires (reserves_within market) _ refl c.descend-prices.ensures.least
-    (λ rises. false≢true (sym c.if-rises_where_fallen.false ∙ c.rises_where_fallen.ensures.1 rises)) in
+    let start = c.start_below-start in
+    let few = margin_left (goods_of c.args.market.now) c.args.guess.now.items (reserves_of c.args.market.now) start.result.items _ c.requires.0 start.ensures.size start.ensures.value (market_keeps c.args.market.now) c.requires
+    (reserves_within c.args.market.now) _ refl c.descend-prices.ensures.least (λ rises. false≢true (sym c.if-rises_where_fallen.false ∙ c.rises_where_fallen.ensures.1 rises)) in
     (c.loop-prices.invariant.0, omega (arith, ints, few))
 
 pub loop-prices-smaller : goal.loop-prices-smaller
 loop-prices-smaller g c =
-    let market = c.args.market.now in
-    let guess = c.args.guess.now.items in
-    let reserve : c.reserve.result.now.items ≡ reserves_of market = c.reserve.ensures.value ∙ ap (λ seller. seller.reserve.items) c.seller.ensures in
-    let start = c.below-start.result.items in
-    let margin = to_z w64 c.loop-prices.margin-bits in
-    let value : (k : ℕ) → k < length guess → get_or start k (pos 0) ≡ int_max (get_or guess k (pos 0) -ℤ margin) (get_or (reserves_of market) k (pos 0)) =
-    λ k h. c.below-start.ensures.value k h ∙ ap (λ (r : List ℤ). int_max (get_or guess k (pos 0) -ℤ margin) (get_or r k (pos 0))) reserve in
-    let few = margin_left (goods_of market) guess (reserves_of market) start margin c.requires.0 c.below-start.ensures.size value (market_keeps market) c.requires (reserves_within market) _ refl c.descend-prices.ensures.least
-    (λ rises. false≢true (sym c.if-rises_where_fallen.false ∙ c.rises_where_fallen.ensures.1 rises)) in
-    let before = over_is (pos 2000000 -ℤ margin) in
+    let start = c.start_below-start in
+    let few = margin_left (goods_of c.args.market.now) c.args.guess.now.items (reserves_of c.args.market.now) start.result.items _ c.requires.0 start.ensures.size start.ensures.value (market_keeps c.args.market.now) c.requires
+    (reserves_within c.args.market.now) _ refl c.descend-prices.ensures.least (λ rises. false≢true (sym c.if-rises_where_fallen.false ∙ c.rises_where_fallen.ensures.1 rises)) in
+    let before = over_is (pos 2000000 -ℤ to_z w64 c.loop-prices.margin-bits) in
     let after = over_is (pos 2000000 -ℤ to_z w64 (of_z w64 c.wider-margin.result)) in
     let wider = c.wider-margin.ensures in
     omega (arith, ints, clamps, few, wider.0, wider.1, c.loop-prices.invariant.0)

@@ -1,19 +1,17 @@
-use Rattle.std.proofs.Common.{not, ◌≡◌, ◌∙◌, ◌^◌, ◌+◌, ◌-◌, ◌*◌, ◌<◌, ◌/◌, ℕ, suc, List, ℤ, ◌-ℤ◌, length, map, arith, ap, sym, subst, to_z, of_z, w64}
+use Rattle.std.proofs.Common.{not, ◌≡◌, ◌∙◌, ◌^◌, ◌+◌, ◌-◌, ◌*◌, ◌<◌, ℕ, suc, List, ℤ, ◌-ℤ◌, length, map, arith, ap, subst, to_z, of_z, w64}
 use Rattle.std.proofs.lemmas.Int.{ints}
 use Rattle.mix_num.specs.Vectors.{bit, dot_to, members as within, with_null}
-use Rattle.mix_num.specs.Moves.{IsSetOfGoods}
 use Rattle.mix_num.specs.Tables.{number_of}
 use Rattle.mix_law.specs.Members.{fall_of}
 use Rattle.mix_law.proofs.NewTables.{zero_number}
 use Rattle.mix_seller.specs.Sellers.{supply_of}
 use Rattle.mix_market.specs.Lyapunov.{sum_of}
-use Rattle.mix_market.specs.Markets.{goods_of, lyapunov_of, members_of, seller_of}
-use Rattle.mix_market.specs.Steepest.{slope_down}
-use Rattle.mix_market.proofs.GoodsSets.{count_goods, even_goods, even_of, half_goods}
+use Rattle.mix_market.specs.Markets.{goods_of, members_of, seller_of}
+use Rattle.mix_market.proofs.GoodsSets.{count_goods}
 use Rattle.mix_market.proofs.Falls.{slope_down-by_others}
 use Rattle.mix_market.proofs.MarketFacts.{market_keeps}
 use Rattle.mix_market.specs.Memberships.{sum_of_totals}
-use Rattle.mix_market.proofs.SlopeTables.{next_zero, one_done}
+use Rattle.mix_market.proofs.SlopeTables.{goods_done, next_zero, one_done, others_done}
 use Rattle.mix_market.proofs.market.Market.slopes_down.Goals as goal
 
 pub loop-half-init : goal.loop-half-init
@@ -59,24 +57,15 @@ loop-half-preserved g c =
     (omega (arith, ints, falls.0, falls.1, supplied.0, supplied.1, total.0, total.1)) c.add.ensures.sum c.add.ensures.others c.loop-half.invariant
 
 pub returns-clause-goods : goal.returns-clause-goods
-returns-clause-goods g c = λ set goods.
-    let market = c.args.self.now in
-    let prices = c.args.prices.now.items in
-    let slope : ℕ → ℤ = λ k. slope_down (lyapunov_of market) (with_null prices) (within k) in
-    let count = count_goods (length prices) in
+returns-clause-goods g c =
+    let count = count_goods (length c.args.prices.now.items) in
     let last = c.goods.ensures ∙ ap (λ (k : ℕ). 2 ^ (k + 1) - 2) c.len-n.ensures.value in
-    let all : c.loop-half.half ≡ 2 ^ length prices = omega (arith, c.bits.ensures.value, last) in
     let power = ap (λ (k : ℕ). 2 ^ k) c.requires.0 in
-    let below = half_goods (goods_of market) set goods in
-    let even = even_of set goods.1 in
-    ap (number_of c.loop-half.out) even ∙ c.loop-half.invariant.done (set / 2) (omega arith) ∙ ap slope (sym even)
+    goods_done (goods_of c.args.self.now) c.loop-half.out _ c.loop-half.half (omega (arith, c.bits.ensures.value, last)) c.loop-half.invariant
 
 pub returns-clause-others : goal.returns-clause-others
-returns-clause-others g c = λ set other.
-    let market = c.args.self.now in
-    let prices = c.args.prices.now.items in
-    let count = count_goods (length prices) in
+returns-clause-others g c =
+    let count = count_goods (length c.args.prices.now.items) in
     let last = c.goods.ensures ∙ ap (λ (k : ℕ). 2 ^ (k + 1) - 2) c.len-n.ensures.value in
-    let all : c.loop-half.half ≡ 2 ^ length prices = omega (arith, c.bits.ensures.value, last) in
     let power = ap (λ (k : ℕ). 2 ^ k) c.requires.0 in
-    c.loop-half.invariant.others set (λ k l e. other (subst (IsSetOfGoods (goods_of market)) (sym e) (even_goods (goods_of market) k (omega arith))))
+    others_done (goods_of c.args.self.now) c.loop-half.out _ c.loop-half.half (omega (arith, c.bits.ensures.value, last)) c.loop-half.invariant
