@@ -1,6 +1,3 @@
-mod Climbs
-mod Rooms
-mod Bounds
 mod Stretches
 mod Landings
 pub mod Straights

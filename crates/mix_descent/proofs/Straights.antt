@@ -9,7 +9,7 @@ use Rattle.mix_law.specs.Members.{KeepsLocal}
 use Rattle.mix_law.proofs.Lattice.{lattice, lesser, greater}
 use Rattle.mix_law.proofs.Midpoint.{slopes_rise}
 use Rattle.mix_market.specs.Steepest.{IsGoods, IsMinimalSteepest, slope_of}
-use Rattle.mix_descent.proofs.Climbs.{IsBestBelow, step_best, best_same}
+use Rattle.mix_market.proofs.Climbs.{IsBestBelow, step_best, best_same}
 
 twice_lesser : (a : ℤ) (s t : Bool) → int_min ((a +ℤ bit s) +ℤ bit t) (a +ℤ pos 1) ≡ a +ℤ bit (cond s true t)
 twice_lesser a true true = omega (arith, ints, clamps)

@@ -17,8 +17,8 @@ use Rattle.mix_market.specs.Steepest.{IsMinimalSteepest, slope_of}
 use Rattle.mix_market.proofs.MarketFacts.{market_keeps}
 use Rattle.mix_descent.specs.Trails.{IsLongStep}
 use Rattle.mix_descent.specs.declared.long_step.LongStep.{LongStep}
-use Rattle.mix_descent.proofs.Bounds.{rises_low}
-use Rattle.mix_descent.proofs.Rooms.{some_good, count}
+use Rattle.mix_market.proofs.Bounds.{rises_low}
+use Rattle.mix_market.proofs.Rooms.{some_good, count}
 use Rattle.mix_descent.proofs.Straights.{IsStraight, steepest_along, straight_ends, ray_start, ray_step, times_next}
 
 -- here is so many steps along the set from p, the function has risen by the slope at each, and does so at the next

@@ -7,7 +7,7 @@ ghost use Rattle.mix_market.specs.Lowerings.{RisesWhereFallen};
 ghost use Rattle.mix_market.specs.Markets.{goods_of, lyapunov_of, reserves_of};
 
 use mix_law::Convex;
-use mix_market::Market;
+use mix_market::{Market, are_above};
 use mix_num::{Prices, Set, SetTable};
 
 /// Whether the Lyapunov function rises wherever the prices of a set of goods, each above its reserve, fall by one.
@@ -20,20 +20,7 @@ pub(crate) fn rises_where_fallen<D: Convex>(market: &Market<D>, prices: &Prices)
     market.slopes_down(prices, &mut slopes);
     for half in 1..Set::goods(prices.len()).bits() / 2 + 1 {
         let set = Set::from_bits(2 * half);
-        if can_fall(reserve, prices, set) && stays_low(&slopes, set) {
-            return false;
-        }
-    }
-    true
-}
-
-/// Whether the price of each good of the set is above its reserve.
-fn can_fall(reserve: &Prices, prices: &Prices, set: Set) -> bool
-    requires { length reserve.now.items ≡ length prices.now.items }
-    ensures { IsTrue result ↔ ((k : ℕ) → k < length prices.now.items → members set (suc k) ≡ true → slice_index_or reserve.now.items k (pos 0) <ℤ slice_index_or prices.now.items k (pos 0)) }
-{
-    for (place, price) in prices.iter().enumerate() {
-        if set.has(place + 1) && *price <= reserve[place] {
+        if are_above(reserve, prices, set) && stays_low(&slopes, set) {
             return false;
         }
     }

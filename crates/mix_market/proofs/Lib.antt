@@ -6,4 +6,11 @@ mod SlopeTables
 pub mod MarketLaws
 pub mod MarketFacts
 mod Falls
+pub mod Climbs
+pub mod Rooms
+pub mod Bounds
+pub mod Gaps
+pub mod Rises
+pub mod LargestSets
+pub mod LargestFalls
 pub mod SingleSteps

@@ -4,3 +4,5 @@ pub mod Lowerings
 pub mod Extremes
 pub mod Memberships
 pub mod Markets
+pub mod Gaps
+pub mod LargestFalls

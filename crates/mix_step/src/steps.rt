@@ -1,11 +1,11 @@
-// A counter of least steps.
+// A counter of searches.
 ghost use Rattle.std.specs.Prelude.{◌≡◌, ◌+◌, ◌<◌};
 
 use std::marker::Model;
 use std::sync::ledger::{Blank, Book, Ledger, Share};
 
-/// How many least steps were asked for. It takes no bytes, and only [`least_step`](crate::least_step) and
-/// [`least_among`](crate::least_among) add to it.
+/// How many searches over all sets of goods were made, such as those of [`least_step`](crate::least_step) and
+/// [`least_among`](crate::least_among). It takes no bytes, and nothing takes from it.
 #[derive(Drop)]
 pub struct Steps<L: Ledger> {
     book: Book<L>,
@@ -34,8 +34,8 @@ impl<L: Ledger> Steps<L> {
         Steps { book, share }
     }
 
-    /// Counts one step.
-    pub(crate) fn tick(&mut self)
+    /// Counts one step: whoever searches all sets of goods once counts one.
+    pub fn tick(&mut self)
         ensures { self.new ≡ self.old + 1 }
     {
         self.book.add(&mut self.share, 1);

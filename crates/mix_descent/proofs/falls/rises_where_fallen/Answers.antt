@@ -7,7 +7,7 @@ use Rattle.mix_market.specs.Lowerings.{CanFall}
 use Rattle.mix_market.specs.Markets.{goods_of, lyapunov_of, reserves_of}
 use Rattle.mix_market.proofs.GoodsSets.{count_goods, even_goods, even_of}
 use Rattle.mix_descent.proofs.falls.rises_where_fallen.Goals as goal
-use Rattle.mix_descent.proofs.falls.rises_where_fallen.Goals.{else-can_fall-via-then-can_fall+else-stays_low, else-can_fall-via-else-can_fall}
+use Rattle.mix_descent.proofs.falls.rises_where_fallen.Goals.{else-are_above-via-then-are_above+else-stays_low, else-are_above-via-else-are_above}
 
 -- what isn't at most 0 is above it
 rises_from : {number after before : ℤ} → number ≡ after -ℤ before → (number ≤ℤ pos 0 → ⊥) → before <ℤ after
@@ -29,12 +29,12 @@ loop-half-preserved g c = λ s h falls. ⊎_elim
     let same : s ≡ set = omega (arith, even, h, q, c.from_bits-set.ensures) in
     let here : CanFall (goods_of market) (with_null (reserves_of market)) x set = subst (CanFall (goods_of market) (with_null (reserves_of market)) x) same falls in
     subst (λ (v : ℕ). lyapunov_of market x <ℤ lyapunov_of market (minus x (members v))) (sym same)
-    (elim c.else-can_fall.branch [
-      | else-can_fall-via-then-can_fall+else-stays_low w ↦
+    (elim c.else-are_above.branch [
+      | else-are_above-via-then-are_above+else-stays_low w ↦
           let down = c.slopes_down.ensures.goods set here.goods in
           rises_from down (λ low. false≢true (sym w.if-stays_low.false ∙ w.stays_low.ensures.1 low))
-      | else-can_fall-via-else-can_fall w ↦
-          absurd (false≢true (sym w.if-can_fall.false ∙ c.can_fall.ensures.1 (λ k l m.
+      | else-are_above-via-else-are_above w ↦
+          absurd (false≢true (sym w.if-are_above.false ∙ c.are_above.ensures.1 (λ k l m.
           let high = here.above (suc k) (omega (arith, l, c.requires.0)) m in
           let held = ap (λ (r : List ℤ). get_or r k (pos 0)) reserve in
           omega (arith, ints))))
@@ -61,7 +61,7 @@ returns-then-stays_low g c =
       goods = goods;
       some = omega (arith, c.from_bits-set.ensures, c.loop-half.auto.half);
       above = above_goods n set _ _ goods.1 (λ k l m.
-          let high = c.can_fall.ensures.0 c.if-can_fall.true k (omega (arith, l, c.requires.0)) m in
+          let high = c.are_above.ensures.0 c.if-are_above.true k (omega (arith, l, c.requires.0)) m in
           let held = ap (λ (r : List ℤ). get_or r k (pos 0)) reserve in
           omega (arith, ints));
     } in

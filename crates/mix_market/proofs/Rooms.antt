@@ -1,7 +1,7 @@
 -- How far prices may still rise, and that a least step leaves less room.
 use Rattle.std.proofs.Common.{◌≡◌, ℕ, zero, suc, ◌+◌, ◌<◌, ◌≤◌, Bool, true, false, cond, ℤ, pos, ◌+ℤ◌, ◌-ℤ◌, ◌<ℤ◌, ◌≤ℤ◌, refl, arith, ap, ap₂, ◌∙◌, ◌⊎◌, inl, inr, eq-or-lt_of_le, sym, eqb}
 use Rattle.std.proofs.lemmas.Int.{ints, clamps}
-use Rattle.mix_num.specs.Vectors.{Vector, Choices, bit, plus, members, Agree}
+use Rattle.mix_num.specs.Vectors.{Vector, Choices, bit, plus, minus, members, Agree}
 use Rattle.mix_num.specs.Moves.{IsSetOfGoods}
 use Rattle.mix_num.proofs.Masks.{same_members}
 use Rattle.std.proofs.lemmas.Nat.{pow_pos}
@@ -65,3 +65,32 @@ room-less (suc n) x y h =
     let a = over_is (pos 1000000 -ℤ x (suc n)) in
     let b = over_is (pos 1000000 -ℤ y (suc n)) in
     omega (arith, ints, clamps)
+
+-- the units that the goods 1 to n may fall together down to a floor
+abbrev pub depth : ℕ → Vector → Vector → ℕ
+depth zero x floor = 0
+depth (suc n) x floor = over (x (suc n) -ℤ floor (suc n)) + depth n x floor
+
+-- a good that falls takes one unit of the depth
+pub depth-lowered : (n : ℕ) (x floor : Vector) (s : Choices) → ((k : ℕ) → k < n → s (suc k) ≡ true → floor (suc k) <ℤ x (suc k)) → depth n (minus x s) floor + count n s ≡ depth n x floor
+depth-lowered zero x floor s h = refl
+depth-lowered (suc n) x floor s h =
+    let before = depth-lowered n x floor s (λ k l. h k (omega arith)) in
+    let here = entry (x (suc n)) (floor (suc n)) (s (suc n)) (h n (omega arith)) in
+    omega arith
+  where
+    entry : (a f : ℤ) (b : Bool) → (b ≡ true → f <ℤ a) → over ((a -ℤ bit b) -ℤ f) + cond b 1 0 ≡ over (a -ℤ f)
+    entry a f true h = let below = h refl in let u = over_is ((a -ℤ pos 1) -ℤ f) in let v = over_is (a -ℤ f) in omega (arith, ints, clamps)
+    entry a f false h = let u = over_is ((a -ℤ pos 0) -ℤ f) in let v = over_is (a -ℤ f) in omega (arith, ints, clamps)
+
+pub depth-same : (n : ℕ) (x y floor : Vector) → Agree n x y → depth n x floor ≡ depth n y floor
+depth-same zero x y floor h = refl
+depth-same (suc n) x y floor h = ap₂ (λ (a : ℤ) (b : ℕ). over (a -ℤ floor (suc n)) + b) (h (suc n) (omega arith)) (depth-same n x y floor (λ k l. h k (omega arith)))
+
+-- not every choice is outside a set that isn't empty
+pub not_empty : (n set : ℕ) → IsSetOfGoods n set → (set ≡ 0 → ⊥) → ((k : ℕ) → k ≤ n → members set k ≡ false) → ⊥
+not_empty n set goods some none = some (same_members (n + 1) set 0 goods.0 (pow_pos (n + 1)) (λ k h. none k (omega arith) ∙ sym (ap (λ (v : ℕ). eqb v 1) (bit_at-zero k))))
+
+-- and the empty set has none
+pub nothing_in : (set : ℕ) → set ≡ 0 → (k : ℕ) → members set k ≡ false
+nothing_in set e k = ap (λ (v : ℕ). members v k) e ∙ ap (λ (v : ℕ). eqb v 1) (bit_at-zero k)

@@ -12,7 +12,7 @@ use Rattle.mix_market.specs.Markets.{members_of, seller_of, goods_of, lyapunov_o
 use Rattle.mix_market.specs.Steepest.{IsMinimalSteepest}
 use Rattle.mix_market.proofs.MemberExtremes.{greatest_covers}
 use Rattle.mix_market.proofs.MarketFacts.{market_keeps, market_far}
-use Rattle.mix_descent.proofs.Climbs.{not_wanted, without}
+use Rattle.mix_market.proofs.Climbs.{not_wanted, without}
 
 module _ {D : Type 0} {g : Ghosts D} (market : Market D g) where
   pub rises_low : (x : Vector) (s : Choices) → x 0 ≡ pos 0 → IsMinimalSteepest (goods_of market) (lyapunov_of market) x s → (k : ℕ) → k < goods_of market → s (suc k) ≡ true → x (suc k) <ℤ pos 1000000

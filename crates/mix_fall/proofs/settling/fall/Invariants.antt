@@ -1,0 +1,22 @@
+use Rattle.std.proofs.Common.{◌≡◌, pos, ◌-ℤ◌}
+use Rattle.mix_num.specs.Vectors.{Vector, with_null}
+use Rattle.mix_num.specs.Ranges.{AreWithin}
+use Rattle.mix_law.proofs.Exchanges.{AtMost}
+use Rattle.mix_market.specs.Gaps.{greatest_gap}
+use Rattle.mix_market.specs.Lyapunov.{IsBelow, IsLeastPoint}
+use Rattle.mix_market.specs.Markets.{goods_of, lyapunov_of}
+use Rattle.mix_market.specs.LargestFalls.{IsLeastAbove}
+use Rattle.mix_market.proofs.Rooms.{depth}
+use Rattle.mix_fall.proofs.settling.fall.Given as goal
+
+abbrev pub invariant-loop-step : goal.invariant-loop-step
+invariant-loop-step g l = record {
+  range : AreWithin 1000000 (goods_of l.market) l.prices.items;
+  over : IsBelow (goods_of l.market) (with_null l.floor.items) (with_null l.prices.items);
+  above : IsLeastAbove (goods_of l.market) (lyapunov_of l.market) (with_null l.prices.items);
+  near : (a : Vector) → a 0 ≡ pos 0 → IsLeastPoint (goods_of l.market) (lyapunov_of l.market) (with_null l.floor.items) a
+      → AtMost (goods_of l.market) (with_null l.prices.items) a (greatest_gap (goods_of l.market) (with_null l.fn.high.items) a -ℤ (pos l.steps -ℤ pos l.fn.steps));
+}
+
+abbrev pub decreases-loop-step : goal.decreases-loop-step
+decreases-loop-step g l = depth (goods_of l.market) (with_null l.prices.items) (with_null l.floor.items)

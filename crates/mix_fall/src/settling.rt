@@ -1,0 +1,88 @@
+// The way to the least point: up by least steps, then down by largest falls.
+ghost use Rattle.std.specs.Prelude.{◌≡◌, ℕ, pos, ◌+ℤ◌, ◌≤ℤ◌};
+ghost use Rattle.mix_num.specs.Vectors.{Vector, with_null};
+ghost use Rattle.mix_num.specs.Ranges.{AreWithin};
+ghost use Rattle.mix_market.specs.Gaps.{greatest_gap};
+ghost use Rattle.mix_market.specs.Lyapunov.{IsBelow, IsLeastPoint};
+ghost use Rattle.mix_market.specs.Markets.{goods_of, lyapunov_of};
+ghost use Rattle.mix_market.specs.LargestFalls.{IsLeastAbove};
+
+use crate::largest::largest_fall;
+use mix_law::Convex;
+use mix_market::Market;
+use mix_num::{Prices, lower, raise};
+use mix_step::{Steps, least_step};
+use std::sync::ledger::Ledger;
+
+/// The least point of the market's Lyapunov function among the prices at or above the floor, from a start at or above it.
+///
+/// From the start prices rise to the least point at or above it, by one search for each unit of the greatest rise and one
+/// that finds nothing; from there they fall, by one search for each unit of the greatest fall and one that finds nothing. So
+/// where few bids came or went, prices are found from the last ones in few steps. Floor and start have prices from -1,000,000 to
+/// 1,000,000, and so has the answer.
+pub fn settle<D: Convex, L: Ledger>(
+    market: &Market<D>,
+    floor: &Prices,
+    start: &Prices,
+    steps: &mut Steps<L>,
+) -> Prices
+    requires floor { AreWithin 1000000 (goods_of market.now) floor.now.items }
+    requires start { AreWithin 1000000 (goods_of market.now) start.now.items }
+    requires above { IsBelow (goods_of market.now) (with_null floor.now.items) (with_null start.now.items) }
+    ensures least { IsLeastPoint (goods_of market.now) (lyapunov_of market.now) (with_null floor.now.items) (with_null result.items) }
+    ensures range { AreWithin 1000000 (goods_of market.now) result.items }
+    ensures cost { (u : Vector) → u 0 ≡ pos 0 → IsLeastPoint (goods_of market.now) (lyapunov_of market.now) (with_null start.now.items) u
+        → pos steps.new ≤ℤ (((pos steps.old +ℤ greatest_gap (goods_of market.now) u (with_null start.now.items)) +ℤ greatest_gap (goods_of market.now) u (with_null result.items)) +ℤ pos 2) }
+{
+    let high = rise(market, start, steps);
+    fall(market, floor, high, steps)
+}
+
+/// The least point at or above the start, by least steps.
+fn rise<D: Convex, L: Ledger>(market: &Market<D>, start: &Prices, steps: &mut Steps<L>) -> Prices
+    requires start { AreWithin 1000000 (goods_of market.now) start.now.items }
+    ensures least { IsLeastPoint (goods_of market.now) (lyapunov_of market.now) (with_null start.now.items) (with_null result.items) }
+    ensures range { AreWithin 1000000 (goods_of market.now) result.items }
+    ensures cost { pos steps.new ≤ℤ ((pos steps.old +ℤ greatest_gap (goods_of market.now) (with_null result.items) (with_null start.now.items)) +ℤ pos 1) }
+{
+    let mut prices = copy(start);
+    loop {
+        let step = least_step(market, &prices, steps);
+        if step.set.bits() == 0 {
+            return prices;
+        }
+        prices = raise(&prices, step.set, 1);
+    }
+}
+
+/// The least point at or above the floor, by largest falls from a point that is least among all at or above it.
+fn fall<D: Convex, L: Ledger>(
+    market: &Market<D>,
+    floor: &Prices,
+    high: Prices,
+    steps: &mut Steps<L>,
+) -> Prices
+    requires floor { AreWithin 1000000 (goods_of market.now) floor.now.items }
+    requires high { AreWithin 1000000 (goods_of market.now) high.items }
+    requires above { IsBelow (goods_of market.now) (with_null floor.now.items) (with_null high.items) }
+    requires least { IsLeastAbove (goods_of market.now) (lyapunov_of market.now) (with_null high.items) }
+    ensures least { IsLeastPoint (goods_of market.now) (lyapunov_of market.now) (with_null floor.now.items) (with_null result.items) }
+    ensures range { AreWithin 1000000 (goods_of market.now) result.items }
+    ensures cost { pos steps.new ≤ℤ ((pos steps.old +ℤ greatest_gap (goods_of market.now) (with_null high.items) (with_null result.items)) +ℤ pos 1) }
+{
+    let mut prices = high;
+    loop {
+        let step = largest_fall(market, floor, &prices, steps);
+        if step.set.bits() == 0 {
+            return prices;
+        }
+        prices = lower(&prices, step.set, 1);
+    }
+}
+
+/// The same prices.
+fn copy(prices: &Prices) -> Prices
+    ensures { result.items ≡ prices.now.items }
+{
+    Prices::try_from(prices.as_slice()).unwrap()
+}
