@@ -104,11 +104,16 @@ impl BidList {
     pub fn copy(&self, alloc: Global) -> Result<BidList, Memory>
         ensures { IfOk result (λ list. list ≡ self.now) }
     {
-        let mut list = BidList::new(alloc, self.goods());
-        for bid in self.bids() {
-            list.push(bid.copy())?;
-        }
-        Ok(list)
+        let Ok(kept) = Vec::from_slice(alloc, &self.kept) else {
+            return Err(Memory);
+        };
+        let bids = copies(alloc, &self.bids)?;
+        Ok(BidList {
+            goods: self.goods,
+            bids,
+            kept,
+            cells: self.cells,
+        })
     }
 
     /// The number of goods, from 1 to 8.
@@ -220,4 +225,17 @@ impl BidList {
         }
         sum
     }
+}
+
+/// Equal bids, or want of memory.
+fn copies(alloc: Global, bids: &[Bid]) -> Result<Vec<Bid>, Memory>
+    ensures { IfOk result (λ copies. copies.items ≡ bids.now) }
+{
+    let mut copies = Vec::new(alloc);
+    for bid in bids {
+        let Ok(()) = copies.push(bid.copy()) else {
+            return Err(Memory);
+        };
+    }
+    Ok(copies)
 }
