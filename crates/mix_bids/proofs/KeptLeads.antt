@@ -6,7 +6,8 @@ use Rattle.std.specs.Set.{distinct_count}
 use Rattle.mix_bids.specs.Leads.{lead_of, negative_lead}
 use Rattle.mix_bids.specs.Levels.{differences, has_lead, is_lead}
 use Rattle.mix_bids.specs.Cells.{level_leads}
-use Rattle.mix_bids.specs.Counted.{bid_at, is_among, level_lead, negatives}
+use Rattle.mix_bids.specs.Counted.{is_among, level_lead}
+use Rattle.mix_bids.specs.Shared.{bid_in, negatives}
 use Rattle.mix_bids.specs.declared.bid.Bid.{Bid}
 use Rattle.mix_bids.proofs.Cases.{by_test}
 use Rattle.mix_bids.proofs.LevelTurns.{difference_first, lead_first, leads_first}
@@ -18,7 +19,7 @@ IsNegative b = int_lt b.weight (pos 0) ≡ true
 
 -- bids of negative weight, by their places
 abbrev pub AreNegative : List Bid → Type 0
-AreNegative es = (p : ℕ) → p < length es → IsNegative (bid_at es p)
+AreNegative es = (p : ℕ) → p < length es → IsNegative (bid_in es p)
 
 pub negatives_are : (bs : List Bid) → AreNegative (negatives bs)
 negatives_are [] = λ p l. absurd (omega arith)
@@ -63,7 +64,7 @@ differences_of_negatives i j (b ∷ bs) = by_test (int_lt b.weight (pos 0))
 
 -- ---- a lead is among a level's leads exactly where a bid of the level has it
 
-pub among_intro : (i j : ℕ) (d : ℤ) (c : ℕ) (u : ℤ) (es : List Bid) (p : ℕ) → p < length es → AreNegative es → has_lead i j d (bid_at es p) ≡ true → is_lead (lead_of (bid_at es p) c i) u ≡ true → is_among (level_leads i j d c es) u ≡ true
+pub among_intro : (i j : ℕ) (d : ℤ) (c : ℕ) (u : ℤ) (es : List Bid) (p : ℕ) → p < length es → AreNegative es → has_lead i j d (bid_in es p) ≡ true → is_lead (lead_of (bid_in es p) c i) u ≡ true → is_among (level_leads i j d c es) u ≡ true
 among_intro i j d c u [] p l n h g = absurd (omega arith)
 among_intro i j d c u (e ∷ es) zero l n h g =
     lead_first i j d c u e es
@@ -77,7 +78,7 @@ among_intro i j d c u (e ∷ es) (suc p) l n h g =
     either true b h = refl
     either false b h = h
 
-pub among_elim : (i j : ℕ) (d : ℤ) (c : ℕ) (u : ℤ) (es : List Bid) → is_among (level_leads i j d c es) u ≡ true → (p : ℕ) × (p < length es) × (has_lead i j d (bid_at es p) ≡ true) × (is_lead (lead_of (bid_at es p) c i) u ≡ true)
+pub among_elim : (i j : ℕ) (d : ℤ) (c : ℕ) (u : ℤ) (es : List Bid) → is_among (level_leads i j d c es) u ≡ true → (p : ℕ) × (p < length es) × (has_lead i j d (bid_in es p) ≡ true) × (is_lead (lead_of (bid_in es p) c i) u ≡ true)
 among_elim i j d c u [] h = absurd (false≢true h)
 among_elim i j d c u (e ∷ es) h = by_test (is_lead (level_lead i j d c e) u)
     (λ t. let r = here (has_lead i j d e) (int_lt e.weight (pos 0)) (lead_of e c i) t in (0, omega arith, r.0, r.1))
@@ -90,7 +91,7 @@ among_elim i j d c u (e ∷ es) h = by_test (is_lead (level_lead i j d c e) u)
     here false false o h = absurd (false≢true h)
 
 -- a level is there exactly where a bid has its difference
-pub level_intro : (i j : ℕ) (d : ℤ) (es : List Bid) (p : ℕ) → p < length es → AreNegative es → has_lead i j d (bid_at es p) ≡ true → is_among (differences i j es) d ≡ true
+pub level_intro : (i j : ℕ) (d : ℤ) (es : List Bid) (p : ℕ) → p < length es → AreNegative es → has_lead i j d (bid_in es p) ≡ true → is_among (differences i j es) d ≡ true
 level_intro i j d [] p l n h = absurd (omega arith)
 level_intro i j d (e ∷ es) zero l n h =
     difference_first i j d e es
@@ -103,7 +104,7 @@ level_intro i j d (e ∷ es) (suc p) l n h =
     either true b h = refl
     either false b h = h
 
-pub level_none : (i j : ℕ) (d : ℤ) (es : List Bid) → ((p : ℕ) → p < length es → has_lead i j d (bid_at es p) ≡ false) → is_among (differences i j es) d ≡ false
+pub level_none : (i j : ℕ) (d : ℤ) (es : List Bid) → ((p : ℕ) → p < length es → has_lead i j d (bid_in es p) ≡ false) → is_among (differences i j es) d ≡ false
 level_none i j d [] h = refl
 level_none i j d (e ∷ es) h =
     difference_first i j d e es
@@ -115,13 +116,13 @@ level_none i j d (e ∷ es) h =
 
 -- ---- bids after the last one of a level add no lead to it
 
-pub leads_none : (i j : ℕ) (d : ℤ) (c : ℕ) (es : List Bid) → ((p : ℕ) → p < length es → has_lead i j d (bid_at es p) ≡ false) → level_leads i j d c es ≡ []
+pub leads_none : (i j : ℕ) (d : ℤ) (c : ℕ) (es : List Bid) → ((p : ℕ) → p < length es → has_lead i j d (bid_in es p) ≡ false) → level_leads i j d c es ≡ []
 leads_none i j d c [] h = refl
 leads_none i j d c (e ∷ es) h =
     leads_first i j d c e es
     ∙ ap₂ cons_option (ap (λ t. cond t (negative_lead e c i) None) (h 0 (omega arith))) (leads_none i j d c es (λ p l. h (suc p) (omega arith)))
 
-pub leads_to_last : (i j : ℕ) (d : ℤ) (c : ℕ) (es : List Bid) (q : ℕ) → ((p : ℕ) → q < p → p < length es → has_lead i j d (bid_at es p) ≡ false) → level_leads i j d c (take (suc q) es) ≡ level_leads i j d c es
+pub leads_to_last : (i j : ℕ) (d : ℤ) (c : ℕ) (es : List Bid) (q : ℕ) → ((p : ℕ) → q < p → p < length es → has_lead i j d (bid_in es p) ≡ false) → level_leads i j d c (take (suc q) es) ≡ level_leads i j d c es
 leads_to_last i j d c [] q h = refl
 leads_to_last i j d c (e ∷ es) zero h =
     leads_first i j d c e []

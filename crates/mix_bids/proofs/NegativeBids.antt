@@ -5,7 +5,8 @@ use Rattle.std.proofs.lemmas.List.{append-nil, get_or_append_left, take-append-l
 use Rattle.std.proofs.lemmas.List.Elements.{filter-append}
 use Rattle.std.specs.Set.{distinct_count}
 use Rattle.mix_bids.specs.Levels.{other}
-use Rattle.mix_bids.specs.Counted.{agreement_at, bid_at, counts_at, negatives, AreAgreements, AreKept, IsAgreement, IsCounted}
+use Rattle.mix_bids.specs.Counted.{counts_in, AreKept, IsCounted}
+use Rattle.mix_bids.specs.Shared.{agreement_in, bid_in, negatives, AreAgreements, IsAgreement}
 use Rattle.mix_bids.specs.declared.agreements.Agreement.{Agreement}
 use Rattle.mix_bids.specs.declared.bid.Bid.{Bid}
 use Rattle.mix_bids.specs.declared.counts.Counts.{Counts}
@@ -31,16 +32,16 @@ agreements_push es b e rs r a h = record {
   each = λ p l. at p (place_of es e p l);
 }
   where
-    at : (p : ℕ) → (p ≡ length es) ⊎ (p < length es) → IsAgreement (bid_at (es ++ e ∷ []) p).values.items b.values.items (agreement_at (rs ++ r ∷ []) p)
+    at : (p : ℕ) → (p ≡ length es) ⊎ (p < length es) → IsAgreement (bid_in (es ++ e ∷ []) p).values.items b.values.items (agreement_in (rs ++ r ∷ []) p)
     at p (inl q) =
-        let i : bid_at (es ++ e ∷ []) p ≡ e = ap (bid_at (es ++ e ∷ [])) q ∙ get_or-append_seam es e [] _ in
-        let j : agreement_at (rs ++ r ∷ []) p ≡ r = ap (agreement_at (rs ++ r ∷ [])) (q ∙ sym a.size) ∙ get_or-append_seam rs r [] _ in
-        subst (λ z. IsAgreement z.values.items b.values.items (agreement_at (rs ++ r ∷ []) p)) (sym i) (subst (IsAgreement e.values.items b.values.items) (sym j) h)
+        let i : bid_in (es ++ e ∷ []) p ≡ e = ap (bid_in (es ++ e ∷ [])) q ∙ get_or-append_seam es e [] _ in
+        let j : agreement_in (rs ++ r ∷ []) p ≡ r = ap (agreement_in (rs ++ r ∷ [])) (q ∙ sym a.size) ∙ get_or-append_seam rs r [] _ in
+        subst (λ z. IsAgreement z.values.items b.values.items (agreement_in (rs ++ r ∷ []) p)) (sym i) (subst (IsAgreement e.values.items b.values.items) (sym j) h)
     at p (inr l) =
         let s = a.size in
-        let i : bid_at (es ++ e ∷ []) p ≡ bid_at es p = get_or_append_left es (e ∷ []) _ p l in
-        let j : agreement_at (rs ++ r ∷ []) p ≡ agreement_at rs p = get_or_append_left rs (r ∷ []) _ p (omega arith) in
-        subst (λ z. IsAgreement z.values.items b.values.items (agreement_at (rs ++ r ∷ []) p)) (sym i) (subst (IsAgreement (bid_at es p).values.items b.values.items) (sym j) (a.each p l))
+        let i : bid_in (es ++ e ∷ []) p ≡ bid_in es p = get_or_append_left es (e ∷ []) _ p l in
+        let j : agreement_in (rs ++ r ∷ []) p ≡ agreement_in rs p = get_or_append_left rs (r ∷ []) _ p (omega arith) in
+        subst (λ z. IsAgreement z.values.items b.values.items (agreement_in (rs ++ r ∷ []) p)) (sym i) (subst (IsAgreement (bid_in es p).values.items b.values.items) (sym j) (a.each p l))
 
 -- ---- what the bids of a list keep
 
@@ -52,7 +53,7 @@ kept_same n bs b kept h r =
     let e = sym (negatives_same bs b h) in
     record {
       size = r.size ∙ ap length e;
-      each = subst (λ es. (p : ℕ) → p < length es → IsCounted n (take (suc p) es) (bid_at es p) (counts_at kept p)) e r.each;
+      each = subst (λ es. (p : ℕ) → p < length es → IsCounted n (take (suc p) es) (bid_in es p) (counts_in kept p)) e r.each;
     }
 
 pub kept_push : (n : ℕ) (bs : List Bid) (b : Bid) (kept : List Counts) (k : Counts) → int_lt b.weight (pos 0) ≡ true → AreKept n bs kept → IsCounted n (bs ++ b ∷ []) b k → AreKept n (bs ++ b ∷ []) (kept ++ k ∷ [])
@@ -61,25 +62,25 @@ kept_push n bs b kept k h r q =
     let e = sym (negatives_push bs b h) in
     record {
       size = length-append kept (k ∷ []) ∙ ap (λ z. z + 1) r.size ∙ sym (length-append es (b ∷ [])) ∙ ap length e;
-      each = subst (λ xs. (p : ℕ) → p < length xs → IsCounted n (take (suc p) xs) (bid_at xs p) (counts_at (kept ++ k ∷ []) p)) e (λ p l. at p (place_of es b p l));
+      each = subst (λ xs. (p : ℕ) → p < length xs → IsCounted n (take (suc p) xs) (bid_in xs p) (counts_in (kept ++ k ∷ []) p)) e (λ p l. at p (place_of es b p l));
     }
   where
     last : IsCounted n (negatives bs ++ b ∷ []) b k
     last = subst (λ es. IsCounted n es b k) (negatives_push bs b h) (record { at = λ i j l m. record { leads = λ d g c z. (q.at i j l m).leads d g c z ∙ ap (distinct_count int_eq) (leads_of_negatives i j d (other i j c) (bs ++ b ∷ [])) } })
 
-    at : (p : ℕ) → (p ≡ length (negatives bs)) ⊎ (p < length (negatives bs)) → IsCounted n (take (suc p) (negatives bs ++ b ∷ [])) (bid_at (negatives bs ++ b ∷ []) p) (counts_at (kept ++ k ∷ []) p)
+    at : (p : ℕ) → (p ≡ length (negatives bs)) ⊎ (p < length (negatives bs)) → IsCounted n (take (suc p) (negatives bs ++ b ∷ [])) (bid_in (negatives bs ++ b ∷ []) p) (counts_in (kept ++ k ∷ []) p)
     at p (inl e) =
         let es = negatives bs in
         let xs = es ++ b ∷ [] in
-        let i : bid_at xs p ≡ b = ap (bid_at xs) e ∙ get_or-append_seam es b [] _ in
-        let j : counts_at (kept ++ k ∷ []) p ≡ k = ap (counts_at (kept ++ k ∷ [])) (e ∙ sym r.size) ∙ get_or-append_seam kept k [] _ in
+        let i : bid_in xs p ≡ b = ap (bid_in xs) e ∙ get_or-append_seam es b [] _ in
+        let j : counts_in (kept ++ k ∷ []) p ≡ k = ap (counts_in (kept ++ k ∷ [])) (e ∙ sym r.size) ∙ get_or-append_seam kept k [] _ in
         let t : take (suc p) xs ≡ xs = ap (λ (m : ℕ). take m xs) (let z = length-append es (b ∷ []) in let q : suc p ≡ length xs = omega arith in q) ∙ take-length xs in
-        subst (λ ys. IsCounted n ys (bid_at xs p) (counts_at (kept ++ k ∷ []) p)) (sym t) (subst (λ z. IsCounted n xs z (counts_at (kept ++ k ∷ []) p)) (sym i) (subst (IsCounted n xs b) (sym j) last))
+        subst (λ ys. IsCounted n ys (bid_in xs p) (counts_in (kept ++ k ∷ []) p)) (sym t) (subst (λ z. IsCounted n xs z (counts_in (kept ++ k ∷ []) p)) (sym i) (subst (IsCounted n xs b) (sym j) last))
     at p (inr l) =
         let es = negatives bs in
         let xs = es ++ b ∷ [] in
         let size = r.size in
-        let i : bid_at xs p ≡ bid_at es p = get_or_append_left es (b ∷ []) _ p l in
-        let j : counts_at (kept ++ k ∷ []) p ≡ counts_at kept p = get_or_append_left kept (k ∷ []) _ p (omega arith) in
+        let i : bid_in xs p ≡ bid_in es p = get_or_append_left es (b ∷ []) _ p l in
+        let j : counts_in (kept ++ k ∷ []) p ≡ counts_in kept p = get_or_append_left kept (k ∷ []) _ p (omega arith) in
         let t : take (suc p) xs ≡ take (suc p) es = take-append-le (suc p) es (b ∷ []) (omega arith) in
-        subst (λ ys. IsCounted n ys (bid_at xs p) (counts_at (kept ++ k ∷ []) p)) (sym t) (subst (λ z. IsCounted n (take (suc p) es) z (counts_at (kept ++ k ∷ []) p)) (sym i) (subst (IsCounted n (take (suc p) es) (bid_at es p)) (sym j) (r.each p l)))
+        subst (λ ys. IsCounted n ys (bid_in xs p) (counts_in (kept ++ k ∷ []) p)) (sym t) (subst (λ z. IsCounted n (take (suc p) es) z (counts_in (kept ++ k ∷ []) p)) (sym i) (subst (IsCounted n (take (suc p) es) (bid_in es p)) (sym j) (r.each p l)))

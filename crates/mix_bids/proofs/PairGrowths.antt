@@ -9,7 +9,8 @@ use Rattle.mix_bids.specs.Offers.{offer}
 use Rattle.mix_bids.specs.Leads.{lead, lead_of, negative_lead}
 use Rattle.mix_bids.specs.Levels.{differences, has_lead, is_lead, other}
 use Rattle.mix_bids.specs.Cells.{factor, level_cells, level_leads}
-use Rattle.mix_bids.specs.Counted.{agreeing, agreement_at, bid_at, cells_of_leads, counts_at, growth, is_among, is_shift, leads_at, level_lead, negatives, new_in, shift, AreLeads, IsKnown, IsLast, IsShared}
+use Rattle.mix_bids.specs.Counted.{cells_of_leads, counts_in, growth, is_among, leads_at, level_lead, new_in, AreLeads, IsKnown}
+use Rattle.mix_bids.specs.Shared.{agreeing, agreement_in, bid_in, is_shift, negatives, shift, IsLast, IsShared}
 use Rattle.mix_bids.specs.declared.agreements.Agreement.{Agreement}
 use Rattle.mix_bids.specs.declared.bid.Bid.{Bid}
 use Rattle.mix_bids.specs.declared.counts.Counts.{Counts}
@@ -46,18 +47,18 @@ growth_level n bs b i j d e = let s = pair_grows n i j bs b d e in omega (arith,
 
 module _ (n : ℕ) (bs : List Bid) (b : Bid) (set : ℕ) (kept : List Counts) (rs : List Agreement) (known : IsKnown n bs b set kept rs) (i j : ℕ) (order : i < j) (within : j ≤ n) where
   -- the agreement of the bid at a place, at the two choices and at another one
-  row_shifts : (c p : ℕ) → c ≤ n → c ≢ j → p < length (negatives bs) → agreeing (agreement_at rs p) j c ≡ is_shift (shift (bid_at (negatives bs) p).values.items b.values.items j) (shift (bid_at (negatives bs) p).values.items b.values.items c)
+  row_shifts : (c p : ℕ) → c ≤ n → c ≢ j → p < length (negatives bs) → agreeing (agreement_in rs p) j c ≡ is_shift (shift (bid_in (negatives bs) p).values.items b.values.items j) (shift (bid_in (negatives bs) p).values.items b.values.items c)
   row_shifts c p l d q = let m = known.most in (known.agreements.each p q).same j c (omega arith) (omega arith) (λ e. d (sym e))
 
-  row_is : (d : ℤ) → lead_of b i j ≡ Some d → (p : ℕ) → p < length (negatives bs) → agreeing (agreement_at rs p) j i ≡ has_lead i j d (bid_at (negatives bs) p)
+  row_is : (d : ℤ) → lead_of b i j ≡ Some d → (p : ℕ) → p < length (negatives bs) → agreeing (agreement_in rs p) j i ≡ has_lead i j d (bid_in (negatives bs) p)
   row_is d e p q =
-      let x = bid_at (negatives bs) p in
+      let x = bid_in (negatives bs) p in
       row_shifts i p (omega arith) (λ h. omega arith) q
       ∙ shifts_are_leads (offer x.values.items i) (offer x.values.items j) (offer b.values.items i) (offer b.values.items j) d e
 
-  row_shares : (c : ℕ) (u : ℤ) → c ≤ n → c ≢ j → lead_of b c i ≡ Some u → (p : ℕ) → p < length (negatives bs) → agreeing (agreement_at rs p) j i ≡ true → agreeing (agreement_at rs p) j c ≡ is_lead (lead_of (bid_at (negatives bs) p) c i) u
+  row_shares : (c : ℕ) (u : ℤ) → c ≤ n → c ≢ j → lead_of b c i ≡ Some u → (p : ℕ) → p < length (negatives bs) → agreeing (agreement_in rs p) j i ≡ true → agreeing (agreement_in rs p) j c ≡ is_lead (lead_of (bid_in (negatives bs) p) c i) u
   row_shares c u l d e p q h =
-      let x = bid_at (negatives bs) p in
+      let x = bid_in (negatives bs) p in
       row_shifts c p l d q
       ∙ same_shifts _ (shift x.values.items b.values.items i) _ (sym (row_shifts i p (omega arith) (λ h. omega arith) q) ∙ h)
       ∙ shifts_are_leads (offer x.values.items c) (offer x.values.items i) (offer b.values.items c) (offer b.values.items i) u e
@@ -103,7 +104,7 @@ module _ (n : ℕ) (bs : List Bid) (b : Bid) (set : ℕ) (kept : List Counts) (r
           ∙ ap (λ o. cond (cond (is_some o) (not (members s c)) false) 1 0) (sym x)
 
   -- the last bid of the level keeps how many leads there are
-  kept_is : (d : ℤ) → lead_of b i j ≡ Some d → (q : ℕ) → IsLast (λ p. agreeing (agreement_at rs p) j i) (length rs) (Some q) → (k : ℕ) → k < n - 1 → get_or (leads_at (counts_at kept q) i j) k 0 ≡ distinct_count int_eq (level_leads i j d (other i j k) bs)
+  kept_is : (d : ℤ) → lead_of b i j ≡ Some d → (q : ℕ) → IsLast (λ p. agreeing (agreement_in rs p) j i) (length rs) (Some q) → (k : ℕ) → k < n - 1 → get_or (leads_at (counts_in kept q) i j) k 0 ≡ distinct_count int_eq (level_leads i j d (other i j k) bs)
   kept_is d e q r k l =
       let size = known.agreements.size in
       let z = r.0 in
@@ -112,7 +113,7 @@ module _ (n : ℕ) (bs : List Bid) (b : Bid) (set : ℕ) (kept : List Counts) (r
       ∙ ap (distinct_count int_eq) (leads_to_last i j d (other i j k) (negatives bs) q (λ p a c. sym (row_is d e p c) ∙ r.2 p a (omega arith)) ∙ sym (leads_of_negatives i j d (other i j k) bs))
 
   -- where no bid is of the level, there are none
-  none_is : (d : ℤ) → lead_of b i j ≡ Some d → IsLast (λ p. agreeing (agreement_at rs p) j i) (length rs) None → (k : ℕ) → 0 ≡ distinct_count int_eq (level_leads i j d (other i j k) bs)
+  none_is : (d : ℤ) → lead_of b i j ≡ Some d → IsLast (λ p. agreeing (agreement_in rs p) j i) (length rs) None → (k : ℕ) → 0 ≡ distinct_count int_eq (level_leads i j d (other i j k) bs)
   none_is d e r k =
       let size = known.agreements.size in
       sym (ap (distinct_count int_eq) (leads_of_negatives i j d (other i j k) bs ∙ leads_none i j d (other i j k) (negatives bs) (λ p l. sym (row_is d e p l) ∙ r p (omega arith))))
@@ -184,7 +185,7 @@ lacking_leads n bs cs b set kept rs i j us known l m h = record { leads = λ d g
     none e = cc
 
 pub last_few : (n : ℕ) (bs : List Bid) (b : Bid) (set : ℕ) (kept : List Counts) (rs : List Agreement) (i j q : ℕ) → IsKnown n bs b set kept rs → i < j → j ≤ n → cond (members set i) (members set j) false ≡ true
-    → IsLast (λ p. agreeing (agreement_at rs p) j i) (length rs) (Some q) → (k : ℕ) → k < n - 1 → get_or (leads_at (counts_at kept q) i j) k 0 ≤ 399
+    → IsLast (λ p. agreeing (agreement_in rs p) j i) (length rs) (Some q) → (k : ℕ) → k < n - 1 → get_or (leads_at (counts_in kept q) i j) k 0 ≤ 399
 last_few n bs b set kept rs i j q known l m h r k z =
     let o = offered_both n bs b set kept rs i j known l m h in
     let e = kept_is n bs b set kept rs known i j l m o.0 o.1 q r k z in
@@ -192,13 +193,13 @@ last_few n bs b set kept rs i j q known l m h r k z =
     omega (arith, e, f)
 
 pub some_leads : (n : ℕ) (bs : List Bid) (b : Bid) (set : ℕ) (kept : List Counts) (rs : List Agreement) (i j q s f : ℕ) (vs : List ℕ) → IsKnown n bs b set kept rs → i < j → j ≤ n → cond (members set i) (members set j) false ≡ true
-    → IsLast (λ p. agreeing (agreement_at rs p) j i) (length rs) (Some q) → IsShared rs i j (length rs) s → ((k : ℕ) → members f k ≡ cond (members set k) (not (members s k)) false)
-    → ((k : ℕ) → k < n - 1 → get_or vs k 0 ≡ get_or (leads_at (counts_at kept q) i j) k 0 + cond (members f (other i j k)) 1 0)
-    → AreLeads n (bs ++ b ∷ []) b i j vs × (cells_of_leads n i j vs - cells_of_leads n i j (leads_at (counts_at kept q) i j) ≡ growth n bs b i j)
+    → IsLast (λ p. agreeing (agreement_in rs p) j i) (length rs) (Some q) → IsShared rs i j (length rs) s → ((k : ℕ) → members f k ≡ cond (members set k) (not (members s k)) false)
+    → ((k : ℕ) → k < n - 1 → get_or vs k 0 ≡ get_or (leads_at (counts_in kept q) i j) k 0 + cond (members f (other i j k)) 1 0)
+    → AreLeads n (bs ++ b ∷ []) b i j vs × (cells_of_leads n i j vs - cells_of_leads n i j (leads_at (counts_in kept q) i j) ≡ growth n bs b i j)
 some_leads n bs b set kept rs i j q s f vs known l m h r shared fresh after =
     let o = offered_both n bs b set kept rs i j known l m h in
     let d = o.0 in
-    let us = leads_at (counts_at kept q) i j in
+    let us = leads_at (counts_in kept q) i j in
     let g = has_lead_of (lead_of b i j) d o.1 in
     let before : (k : ℕ) → k < n - 1 → get_or us k 0 ≡ distinct_count int_eq (level_leads i j d (other i j k) bs) = kept_is n bs b set kept rs known i j l m d o.1 q r in
     let leads = leads_with n bs b set kept rs known i j l m d o.1 g s shared f fresh us vs before after in
@@ -208,11 +209,11 @@ some_leads n bs b set kept rs i j q s f vs known l m h r shared fresh after =
     ap (λ ds. is_among ds d) (differences_of_negatives i j bs) ∙ level_intro i j d (negatives bs) q (omega arith) (negatives_are bs) (sym (row_is n bs b set kept rs known i j l m d o.1 q (omega arith)) ∙ r.1) in (
       are_leads n (bs ++ b ∷ []) b i j d vs o.1 leads,
       ap₂ (λ x y. x - y) (cells_counted n i j (bs ++ b ∷ []) d vs leads) (cells_counted n i j bs d us before ∙ sym (ap (λ t. cond t (level_cells n i j bs d) 0) there))
-      ∙ sym (growth_level n bs b i j d (ap₂ (λ t v. cond t v None) known.negative o.1)),
+          ∙ sym (growth_level n bs b i j d (ap₂ (λ t v. cond t v None) known.negative o.1)),
     )
 
 pub none_leads : (n : ℕ) (bs : List Bid) (b : Bid) (set : ℕ) (kept : List Counts) (rs : List Agreement) (i j s f : ℕ) (vs : List ℕ) → IsKnown n bs b set kept rs → i < j → j ≤ n → cond (members set i) (members set j) false ≡ true
-    → IsLast (λ p. agreeing (agreement_at rs p) j i) (length rs) None → IsShared rs i j (length rs) s → ((k : ℕ) → members f k ≡ cond (members set k) (not (members s k)) false)
+    → IsLast (λ p. agreeing (agreement_in rs p) j i) (length rs) None → IsShared rs i j (length rs) s → ((k : ℕ) → members f k ≡ cond (members set k) (not (members s k)) false)
     → ((k : ℕ) → k < n - 1 → get_or vs k 0 ≡ cond (members f (other i j k)) 1 0)
     → AreLeads n (bs ++ b ∷ []) b i j vs × (cells_of_leads n i j vs ≡ growth n bs b i j)
 none_leads n bs b set kept rs i j s f vs known l m h r shared fresh after =
@@ -226,8 +227,8 @@ none_leads n bs b set kept rs i j s f vs known l m h r shared fresh after =
     ap (λ ds. is_among ds d) (differences_of_negatives i j bs) ∙ level_none i j d (negatives bs) (λ p z. sym (row_is n bs b set kept rs known i j l m d o.1 p z) ∙ r p (omega arith)) in (
       are_leads n (bs ++ b ∷ []) b i j d vs o.1 leads,
       cells_counted n i j (bs ++ b ∷ []) d vs leads
-      ∙ less (is_among (differences i j bs) d) _ _ new
-      ∙ sym (growth_level n bs b i j d (ap₂ (λ t v. cond t v None) known.negative o.1)),
+          ∙ less (is_among (differences i j bs) d) _ _ new
+          ∙ sym (growth_level n bs b i j d (ap₂ (λ t v. cond t v None) known.negative o.1)),
     )
   where
     none : (x : ℕ) → x ≡ 0 + x

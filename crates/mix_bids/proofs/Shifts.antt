@@ -8,7 +8,7 @@ use Rattle.mix_num.proofs.Equalities.{int_eq_is}
 use Rattle.mix_bids.specs.Leads.{lead}
 use Rattle.mix_bids.specs.Levels.{is_lead}
 use Rattle.mix_bids.specs.Offers.{AreOffers, IsOffer, Offers, offer}
-use Rattle.mix_bids.specs.Counted.{is_shift, shift_number}
+use Rattle.mix_bids.specs.Shared.{is_shift, shift_number}
 use Rattle.mix_bids.proofs.Cases.{by_test, not_true, same_bool}
 
 -- the earlier offers o and p have the lead of the new ones u and v

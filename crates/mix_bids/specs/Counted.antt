@@ -1,13 +1,14 @@
 -- How the number of cells is counted bid by bid, from what each bid of negative weight keeps. For proofs; no public clause rests on it.
-use Rattle.std.specs.Prelude.{◌≡◌, ◌≢◌, ℕ, zero, suc, ◌+◌, ◌-◌, ◌<◌, ◌≤◌, Bool, true, false, cond, eqb, List, [], ◌∷◌, ◌++◌, ℤ, pos, Option, Some, None, filter, get_or, int_lt, length, take}
+use Rattle.std.specs.Prelude.{◌≡◌, ℕ, zero, suc, ◌+◌, ◌-◌, ◌<◌, ◌≤◌, Bool, true, cond, eqb, List, [], ◌∷◌, ◌++◌, ℤ, pos, Option, Some, None, get_or, int_lt, length, take}
 use Rattle.std.specs.Option.{is_some}
 use Rattle.std.specs.Ordering.{int_eq}
 use Rattle.std.specs.Set.{distinct_count, is_member}
-use Rattle.mix_num.specs.Vectors.{Choices, members}
-use Rattle.mix_bids.specs.Offers.{Offers, offer}
+use Rattle.mix_num.specs.Vectors.{members}
+use Rattle.mix_bids.specs.Offers.{offer}
 use Rattle.mix_bids.specs.Bids.{AreBids, IsBid}
-use Rattle.mix_bids.specs.Leads.{lead, negative_lead}
-use Rattle.mix_bids.specs.Levels.{has_lead, is_lead, other}
+use Rattle.mix_bids.specs.Leads.{negative_lead}
+use Rattle.mix_bids.specs.Levels.{has_lead, other}
+use Rattle.mix_bids.specs.Shared.{bid_in, negatives, AreAgreements}
 use Rattle.mix_bids.specs.Cells.{level_leads, pair_cells, product_below}
 use Rattle.mix_bids.specs.declared.agreements.Agreement.{Agreement}
 use Rattle.mix_bids.specs.declared.bid.Bid.{Bid}
@@ -29,56 +30,6 @@ new_in us (Some u) = cond (is_among us u) 0 1
 -- by how much the cells of two choices grow with a bid
 unfoldable pub growth : ℕ → List Bid → Bid → ℕ → ℕ → ℕ
 growth n bs b i j = pair_cells n (bs ++ b ∷ []) i j - pair_cells n bs i j
-
--- ---- what an earlier bid shares with a new one
-
--- the bids of negative weight
-abbrev pub negatives : List Bid → List Bid
-negatives bs = filter (λ b. int_lt b.weight (pos 0)) bs
-
--- the shift at a choice: by how much the earlier offer is greater than the new one, where both are made
-abbrev pub shift : Offers → Offers → ℕ → Option ℤ
-shift vs us c = lead (offer vs c) (offer us c)
-
--- whether both shifts are there and are the same
-abbrev pub is_shift : Option ℤ → Option ℤ → Bool
-is_shift None o = false
-is_shift (Some v) o = is_lead o v
-
--- a shift as a number, where those that are lacking are out of reach and all different
-abbrev pub shift_number : ℕ → Option ℤ → ℤ
-shift_number c None = pos (10000000 + c)
-shift_number c (Some v) = v
-
--- the choices with the same shift as a choice
-abbrev pub agreeing : Agreement → ℕ → Choices
-agreeing agreement c = members (get_or agreement.sets c 0)
-
-pub record IsAgreement (vs us : Offers) (agreement : Agreement) : Type 0 where
-  pub small : (c : ℕ) → get_or agreement.sets c 0 < 512
-  pub same : (c k : ℕ) → c < 9 → k < 9 → c ≢ k → agreeing agreement c k ≡ is_shift (shift vs us c) (shift vs us k)
-
--- a bid and an agreement at a place of a list
-abbrev pub bid_at : List Bid → ℕ → Bid
-bid_at bs p = get_or bs p (record { weight = pos 0; values = record { items = [] } })
-
-abbrev pub agreement_at : List Agreement → ℕ → Agreement
-agreement_at rs p = get_or rs p (record { sets = [] })
-
--- the agreements of bids with a new one
-pub record AreAgreements (bs : List Bid) (b : Bid) (rs : List Agreement) : Type 0 where
-  pub size : length rs ≡ length bs
-  pub each : (p : ℕ) → p < length bs → IsAgreement (bid_at bs p).values.items b.values.items (agreement_at rs p)
-
--- the last number below m that passes a test, if there is one
-abbrev pub IsLast : Choices → ℕ → Option ℕ → Type 0
-IsLast t m None = (p : ℕ) → p < m → t p ≡ false
-IsLast t m (Some q) = (q < m) × (t q ≡ true) × ((p : ℕ) → q < p → p < m → t p ≡ false)
-
--- the choices that one of the first m agreements has with i at j
-pub record IsShared (rs : List Agreement) (i j m : ℕ) (s : ℕ) : Type 0 where
-  pub met : (c : ℕ) → members s c ≡ true → (p : ℕ) × (p < m) × (agreeing (agreement_at rs p) j i ≡ true) × (agreeing (agreement_at rs p) j c ≡ true)
-  pub all : (c p : ℕ) → p < m → agreeing (agreement_at rs p) j i ≡ true → agreeing (agreement_at rs p) j c ≡ true → members s c ≡ true
 
 -- ---- what a bid keeps
 
@@ -103,15 +54,17 @@ leads_at counts i j = get_or counts.levels (triangle j + i) []
 pub record IsCounted (n : ℕ) (bs : List Bid) (b : Bid) (counts : Counts) : Type 0 where
   pub at : (i j : ℕ) → i < j → j ≤ n → AreLeads n bs b i j (leads_at counts i j)
 
-abbrev pub counts_at : List Counts → ℕ → Counts
-counts_at kept p = get_or kept p (record { levels = [] })
+-- what the bid at a place keeps
+abbrev pub counts_in : List Counts → ℕ → Counts
+counts_in kept p = get_or kept p (record { levels = [] })
 
 -- each bid of negative weight keeps how many there are among the bids up to it
 pub record AreKept (n : ℕ) (bs : List Bid) (kept : List Counts) : Type 0 where
   pub size : length kept ≡ length (negatives bs)
-  pub each : (p : ℕ) → p < length (negatives bs) → IsCounted n (take (suc p) (negatives bs)) (bid_at (negatives bs) p) (counts_at kept p)
+  pub each : (p : ℕ) → p < length (negatives bs) → IsCounted n (take (suc p) (negatives bs)) (bid_in (negatives bs) p) (counts_in kept p)
 
--- what is known of a new bid b of negative weight and of the bids bs before it
+-- what is known of a new bid b of negative weight, and of the bids bs before it: the set that b offers, what they keep, and their
+-- agreements with b
 pub record IsKnown (n : ℕ) (bs : List Bid) (b : Bid) (set : ℕ) (kept : List Counts) (rs : List Agreement) : Type 0 where
   pub least : 1 ≤ n
   pub most : n ≤ 8

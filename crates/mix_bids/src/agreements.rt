@@ -1,4 +1,4 @@
-// At which choices earlier bids of negative weight lie as far from a new bid as at others.
+// What earlier bids of negative weight share with a new one: the choices at which their values are as much above its values.
 ghost use Rattle.std.specs.Prelude.{◌≡◌, ◌≢◌, ℕ, suc, ◌<◌, ◌≤◌, true, cond, get_or, length, pos};
 ghost use Rattle.std.specs.Ordering.{int_eq};
 ghost use Rattle.mix_num.specs.Ranges.{Lies};
@@ -6,7 +6,7 @@ ghost use Rattle.mix_num.specs.Vectors.{members};
 ghost use Rattle.mix_bids.specs.Bids.{AreBids, IsBid};
 ghost use Rattle.mix_bids.specs.Offers.{AreOffers, IsOffer};
 ghost use Rattle.mix_bids.specs.Leads.{lead};
-ghost use Rattle.mix_bids.specs.Counted.{agreeing, agreement_at, negatives, shift as shift_of, shift_number, AreAgreements, IsAgreement, IsLast, IsShared};
+ghost use Rattle.mix_bids.specs.Shared.{agreeing, agreement_in, negatives, shift as shift_of, shift_number, AreAgreements, IsAgreement, IsLast, IsShared};
 
 use crate::bid::{Bid, Values};
 use crate::choices::{either, with_where};
@@ -14,15 +14,15 @@ use crate::leads::offer;
 use arrayvec::ArrayVec;
 use mix_num::Set;
 
-/// For each of the choices 0 to 8, the choices at which an earlier bid values as much more than a new one as at it.
-/// The sets are told by their bits.
+/// For each of the choices 0 to 8, the set of the choices at which an earlier bid's value is as much above a new one's as there, by
+/// its bits.
 #[derive(Clone, Copy, Default, Drop)]
 pub struct Agreement {
     sets: [u16; 9],
 }
 
-/// What the earlier bids of one level share with a new bid of it: the place of the last of them, and the choices of which one of
-/// them has the new bid's lead.
+/// What the earlier bids of one level share with a new bid of it: the place of the last one, if there is one, and the choices of
+/// which some bid has the new bid's lead.
 #[derive(Clone, Copy, Drop)]
 pub struct Shared {
     pub last: Option<usize>,
@@ -111,8 +111,8 @@ fn shift(earlier: Option<i64>, new: Option<i64>, choice: usize) -> i64
 pub fn shared_at(agreements: &[Agreement], first: usize, second: usize) -> Shared
     requires first { first < 9 }
     requires second { second < 9 }
-    requires sets { (p : ℕ) → get_or (agreement_at agreements.now p).sets second 0 < 512 }
-    ensures last { IsLast (λ p. agreeing (agreement_at agreements.now p) second first) (length agreements.now) result.last }
+    requires sets { (p : ℕ) → get_or (agreement_in agreements.now p).sets second 0 < 512 }
+    ensures last { IsLast (λ p. agreeing (agreement_in agreements.now p) second first) (length agreements.now) result.last }
     ensures choices { IsShared agreements.now first second (length agreements.now) result.choices }
 {
     let mut shared = Shared {

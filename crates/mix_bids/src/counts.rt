@@ -104,7 +104,7 @@ fn with_pairs_below(known: &Known, before: Tally, second: usize, start: usize) -
     ensures size { length result.counts.levels ≡ 36 }
     ensures sum { (bs : List BidOf) (b : BidOf) → IsKnown known.now.goods bs b known.now.offers known.now.kept.now known.now.agreements.now →
         result.cells ≡ min (before.cells + sum_below second (λ i. growth_of known.now.goods bs b i second)) 4194305 }
-    ensures counts { (bs : List BidOf) (b : BidOf) → IsKnown known.now.goods bs b known.now.offers known.now.kept.now known.now.agreements.now → 
+    ensures counts { (bs : List BidOf) (b : BidOf) → IsKnown known.now.goods bs b known.now.offers known.now.kept.now known.now.agreements.now →
         (i : ℕ) → i < second → AreLeads known.now.goods (bs ++ b ∷ []) b i second (leads_at result.counts i second) }
     ensures others { (i j : ℕ) → i < j → j < second → leads_at result.counts i j ≡ leads_at before.counts i j }
 {

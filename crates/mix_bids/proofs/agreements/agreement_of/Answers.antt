@@ -1,7 +1,7 @@
 use Rattle.std.proofs.Common.{◌∙◌, ap₂, arith, int_eq, ltb}
 use Rattle.std.proofs.lemmas.List.{get_or_past}
 use Rattle.std.proofs.lemmas.Bool.{ltb-true, ltb-false}
-use Rattle.mix_bids.specs.Counted.{shift}
+use Rattle.mix_bids.specs.Shared.{shift}
 use Rattle.mix_bids.proofs.Cases.{by_test}
 use Rattle.mix_bids.proofs.Shifts.{same_numbers, shift_lies, offer_is}
 use Rattle.mix_bids.proofs.agreements.agreement_of.Goals as goal

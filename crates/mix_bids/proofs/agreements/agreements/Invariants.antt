@@ -1,5 +1,5 @@
 use Rattle.std.proofs.Common.{◌≤◌, length, take}
-use Rattle.mix_bids.specs.Counted.{negatives, AreAgreements}
+use Rattle.mix_bids.specs.Shared.{negatives, AreAgreements}
 use Rattle.mix_bids.proofs.agreements.agreements.Given as goal
 
 abbrev pub invariant-loop-earlier : goal.invariant-loop-earlier

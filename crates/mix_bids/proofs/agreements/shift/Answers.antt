@@ -1,7 +1,7 @@
 use Rattle.std.proofs.Common.{arith, ap₂, ◌∙◌, ◌≡◌, sym, ◌-ℤ◌, to_z, of_z, w64}
 use Rattle.std.proofs.lemmas.Int.{ints}
 use Rattle.mix_bids.specs.Leads.{lead}
-use Rattle.mix_bids.specs.Counted.{shift_number}
+use Rattle.mix_bids.specs.Shared.{shift_number}
 use Rattle.mix_bids.proofs.agreements.shift.Goals as goal
 
 pub overflow_sub-result : goal.overflow_sub-result

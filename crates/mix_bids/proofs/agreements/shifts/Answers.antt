@@ -2,7 +2,7 @@ use Rattle.std.proofs.Common.{◌≡◌, ◌≢◌, ◌∙◌, ap₂, subst, sym
 use Rattle.std.proofs.lemmas.Int.{ints}
 use Rattle.mix_num.specs.Ranges.{Lies}
 use Rattle.mix_bids.specs.Leads.{lead}
-use Rattle.mix_bids.specs.Counted.{shift_number}
+use Rattle.mix_bids.specs.Shared.{shift_number}
 use Rattle.mix_bids.proofs.agreements.shifts.Goals as goal
 
 pub loop-choice-preserved : goal.loop-choice-preserved

@@ -1,6 +1,6 @@
 use Rattle.std.proofs.Common.{◌≡◌, ◌<◌, ℕ, get_or, length, pos}
 use Rattle.mix_num.specs.Ranges.{Lies}
-use Rattle.mix_bids.specs.Counted.{shift, shift_number}
+use Rattle.mix_bids.specs.Shared.{shift, shift_number}
 use Rattle.mix_bids.proofs.agreements.shifts.Given as goal
 
 abbrev pub invariant-loop-choice : goal.invariant-loop-choice

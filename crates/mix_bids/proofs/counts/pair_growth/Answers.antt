@@ -1,7 +1,8 @@
 use Rattle.std.proofs.Common.{◌∙◌, ◌<◌, ◌≤◌, ◌+◌, ◌-◌, ℕ, ap, arith, cond, get_or, length, [], subst, sym}
 use Rattle.mix_num.specs.Vectors.{members}
 use Rattle.mix_bids.specs.Levels.{other}
-use Rattle.mix_bids.specs.Counted.{agreeing, agreement_at, cells_of_leads, counts_at, IsLast}
+use Rattle.mix_bids.specs.Counted.{cells_of_leads, counts_in}
+use Rattle.mix_bids.specs.Shared.{agreeing, agreement_in, IsLast}
 use Rattle.mix_bids.proofs.PairGrowths.{lacking_growth, lacking_leads, last_few, none_leads, some_leads}
 use Rattle.mix_bids.proofs.Triangles.{pair_within}
 use Rattle.mix_bids.proofs.counts.pair_growth.Goals as goal
@@ -24,8 +25,8 @@ pub grown-requires-clause-few : goal.grown-requires-clause-few
 grown-requires-clause-few c =
     let k = c.requires.known in
     let r = last_few _ k.0 k.1 _ _ _ c.args.first c.args.second c.in-Some.last k.2 c.requires.order c.requires.second (sym c.has_both.ensures ∙ c.if-not-has_both.false)
-    (subst (IsLast (λ p. agreeing (agreement_at c.args.known.now.agreements.now p) c.args.second c.args.first) (length c.args.known.now.agreements.now)) c.in-Some.is c.shared_at-shared.ensures.last) in
-    subst (λ (p : ℕ). (a : ℕ) → a < c.args.known.now.goods - 1 → get_or (get_or (counts_at c.args.known.now.kept.now c.in-Some.last).levels p []) a 0 ≤ 399) (sym c.requires.place) r
+    (subst (IsLast (λ p. agreeing (agreement_in c.args.known.now.agreements.now p) c.args.second c.args.first) (length c.args.known.now.agreements.now)) c.in-Some.is c.shared_at-shared.ensures.last) in
+    subst (λ (p : ℕ). (a : ℕ) → a < c.args.known.now.goods - 1 → get_or (get_or (counts_in c.args.known.now.kept.now c.in-Some.last).levels p []) a 0 ≤ 399) (sym c.requires.place) r
 
 pub returns-in-Some-clause-cells : goal.returns-in-Some-clause-cells
 returns-in-Some-clause-cells c = λ bs b k.
@@ -33,10 +34,10 @@ returns-in-Some-clause-cells c = λ bs b k.
     let i = c.args.first in
     let j = c.args.second in
     let rs = c.args.known.now.agreements.now in
-    let levels = (counts_at c.args.known.now.kept.now c.in-Some.last).levels in
+    let levels = (counts_in c.args.known.now.kept.now c.in-Some.last).levels in
     let e = ap (λ (p : ℕ). get_or levels p []) c.requires.place in
     let r = some_leads n bs b _ _ _ i j c.in-Some.last _ _ c.grown.result.leads k c.requires.order c.requires.second (sym c.has_both.ensures ∙ c.if-not-has_both.false)
-    (subst (IsLast (λ p. agreeing (agreement_at rs p) j i) (length rs)) c.in-Some.is c.shared_at-shared.ensures.last)
+    (subst (IsLast (λ p. agreeing (agreement_in rs p) j i) (length rs)) c.in-Some.is c.shared_at-shared.ensures.last)
     c.shared_at-shared.ensures.choices
     c.beyond-fresh.ensures
     (λ a l. c.grown.ensures.leads a l ∙ ap (λ us. get_or us a 0 + cond (members c.beyond-fresh.result (other i j a)) 1 0) e) in
@@ -47,10 +48,10 @@ returns-in-Some-clause-leads c = λ bs b k.
     let i = c.args.first in
     let j = c.args.second in
     let rs = c.args.known.now.agreements.now in
-    let levels = (counts_at c.args.known.now.kept.now c.in-Some.last).levels in
+    let levels = (counts_in c.args.known.now.kept.now c.in-Some.last).levels in
     let e = ap (λ (p : ℕ). get_or levels p []) c.requires.place in
     let r = some_leads c.args.known.now.goods bs b _ _ _ i j c.in-Some.last _ _ c.grown.result.leads k c.requires.order c.requires.second (sym c.has_both.ensures ∙ c.if-not-has_both.false)
-    (subst (IsLast (λ p. agreeing (agreement_at rs p) j i) (length rs)) c.in-Some.is c.shared_at-shared.ensures.last)
+    (subst (IsLast (λ p. agreeing (agreement_in rs p) j i) (length rs)) c.in-Some.is c.shared_at-shared.ensures.last)
     c.shared_at-shared.ensures.choices
     c.beyond-fresh.ensures
     (λ a l. c.grown.ensures.leads a l ∙ ap (λ us. get_or us a 0 + cond (members c.beyond-fresh.result (other i j a)) 1 0) e) in
@@ -62,7 +63,7 @@ returns-in-None-clause-cells c = λ bs b k.
     let j = c.args.second in
     let rs = c.args.known.now.agreements.now in
     let r = none_leads c.args.known.now.goods bs b _ _ _ i j _ _ c.new_level.result.leads k c.requires.order c.requires.second (sym c.has_both.ensures ∙ c.if-not-has_both.false)
-    (subst (IsLast (λ p. agreeing (agreement_at rs p) j i) (length rs)) c.in-None.is c.shared_at-shared.ensures.last)
+    (subst (IsLast (λ p. agreeing (agreement_in rs p) j i) (length rs)) c.in-None.is c.shared_at-shared.ensures.last)
     c.shared_at-shared.ensures.choices
     c.beyond-fresh.ensures
     c.new_level.ensures.leads in
@@ -74,7 +75,7 @@ returns-in-None-clause-leads c = λ bs b k.
     let j = c.args.second in
     let rs = c.args.known.now.agreements.now in
     let r = none_leads c.args.known.now.goods bs b _ _ _ i j _ _ c.new_level.result.leads k c.requires.order c.requires.second (sym c.has_both.ensures ∙ c.if-not-has_both.false)
-    (subst (IsLast (λ p. agreeing (agreement_at rs p) j i) (length rs)) c.in-None.is c.shared_at-shared.ensures.last)
+    (subst (IsLast (λ p. agreeing (agreement_in rs p) j i) (length rs)) c.in-None.is c.shared_at-shared.ensures.last)
     c.shared_at-shared.ensures.choices
     c.beyond-fresh.ensures
     c.new_level.ensures.leads in

@@ -1,6 +1,7 @@
 use Rattle.std.proofs.Common.{◌≡◌, ◌∙◌, ◌<◌, ◌+◌, ◌++◌, ◌∷◌, [], ℕ, suc, add-one, ap, arith, eq-or-lt_of_le, min, subst, sym, ⊎_elim}
 use Rattle.mix_bids.specs.Cells.{cells, sum_below}
-use Rattle.mix_bids.specs.Counted.{growth, leads_at, negatives, triangle, AreAgreements, AreLeads, IsKnown}
+use Rattle.mix_bids.specs.Counted.{growth, leads_at, triangle, AreLeads, IsKnown}
+use Rattle.mix_bids.specs.Shared.{negatives, AreAgreements}
 use Rattle.mix_bids.proofs.CellPushes.{cells_grow}
 use Rattle.mix_bids.proofs.LevelTurns.{capped_sum, sum_none, sum_turn}
 use Rattle.mix_bids.proofs.Triangles.{triangle_within}
