@@ -1,22 +1,22 @@
 -- By how much a capped utility falls where the prices of a set rise by one: what gains more than the threshold falls whole, and of what gains just the
 -- threshold that much as the rest of it doesn't make up for.
-use Rattle.std.proofs.Common.{◌≡◌, ℕ, suc, ◌≤◌, Bool, true, false, cond, ◌&&◌, List, [], ◌∷◌, ℤ, pos, ◌+ℤ◌, ◌-ℤ◌, ◌*ℤ◌, ◌≤ℤ◌, ◌<ℤ◌, refl, arith, sym, ap, ap₂, ◌∙◌, subst, length, min, int_lt}
+use Rattle.std.proofs.Common.{◌≡◌, ℕ, suc, ◌≤◌, Bool, true, false, cond, ◌&&◌, List, [], ◌∷◌, ℤ, pos, ◌+ℤ◌, ◌-ℤ◌, ◌*ℤ◌, ◌≤ℤ◌, ◌<ℤ◌, refl, arith, sym, ap, subst, length, int_lt}
 use Rattle.std.proofs.lemmas.Int.{ints, clamps, by_lt_z}
 use Rattle.std.proofs.lemmas.List.Elements.{All-head, All-tail}
-use Rattle.std.specs.Int.{int_max, int_min}
+use Rattle.std.specs.Int.{int_max}
 use Rattle.std.specs.Int.RustNames.{unsigned_abs}
 use Rattle.std.specs.Ordering.{int_eq}
 use Rattle.mix_num.specs.Vectors.{Vector, Choices, bit, plus}
 use Rattle.mix_num.proofs.Products.{*ℤ-difference}
 use Rattle.mix_bids.specs.Bids.{total_weight, weight_where}
 use Rattle.mix_bids.specs.Caps.{ArePositive, IsPositive, capped_total, capped_utility, units}
-use Rattle.mix_bids.specs.Offers.{best, gain, within}
+use Rattle.mix_bids.specs.Offers.{best, within}
 use Rattle.mix_bids.specs.declared.bid.Bid.{Bid}
 use Rattle.mix_bids.proofs.Falls.{gain_falls}
 use Rattle.mix_bids.proofs.Lengths.{AreOver, first_over, rest_over}
 use Rattle.mix_bids.proofs.PositiveBids.{count_is, gain_of, left_over, rest-units, weight_is}
 use Rattle.mix_bids.proofs.Thresholds.{above-units, capped_by, reached, told_by}
-use Rattle.mix_bids.proofs.Units.{count, length-units, lifted-units, lifted_sum, units_fall}
+use Rattle.mix_bids.proofs.Units.{length-units, lifted-units, lifted_sum, units_fall}
 
 -- ---- a gain beside a threshold
 passes : (z g : ℤ) → z <ℤ g → int_lt z g ≡ true

@@ -175,6 +175,11 @@ cells_grow n bs b =
     ∙ ap (λ z. cells (record { goods = n; bids = bs }) + z) (sum_same (suc n) _ _ (λ j l.
     let e = sum_more j (λ i. pair_cells n bs i j) (λ i. pair_cells n (bs ++ b ∷ []) i j) (λ i k. pair_rises n i j bs b) in omega (arith, e)))
 
+-- a bid of positive weight adds none
+pub cells_stay : (n : ℕ) (bs : List Bid) (b : Bid) → int_lt b.weight (pos 0) ≡ false → cells (record { goods = n; bids = bs ++ b ∷ [] }) ≡ cells (record { goods = n; bids = bs })
+unfolding cells
+cells_stay n bs b h = sum_same (suc n) _ _ (λ j l. sum_same j _ _ (λ i k. pair_stays n i j bs b (ap (λ t. cond t (lead_of b i j) None) h)))
+
 -- a product, its first factor apart
 pub product_front : (m : ℕ) (f : ℕ → ℕ) → product_below (suc m) f ≡ f 0 * product_below m (λ k. f (suc k))
 unfolding product_below

@@ -2,6 +2,7 @@ pub mod Offers
 pub mod Bids
 pub mod Leads
 pub mod Levels
+pub mod Shared
 pub mod Cells
 pub mod Counted
 pub mod Convexity

@@ -1,5 +1,6 @@
 // One bid.
-ghost use Rattle.std.specs.Prelude.{◌≡◌};
+ghost use Rattle.std.specs.Prelude.{◌≡◌, int_lt, pos};
+ghost use Rattle.mix_num.specs.Ranges.{Lies};
 
 use arrayvec::ArrayVec;
 
@@ -14,6 +15,14 @@ pub struct Bid {
 }
 
 impl Bid {
+    /// Whether the weight is negative.
+    pub(crate) fn is_negative(&self) -> bool
+        requires { Lies 10000 self.now.weight }
+        ensures { result ≡ int_lt self.now.weight (pos 0) }
+    {
+        self.weight < 0
+    }
+
     /// An equal bid. It takes no memory.
     pub(crate) fn copy(&self) -> Bid
         ensures { result ≡ self.now }

@@ -1,56 +1,121 @@
-// How the number of cells of a list grows with a bid.
-ghost use Rattle.std.specs.Prelude.{◌≡◌, ℕ, ℤ, suc, ◌+◌, ◌-◌, ◌^◌, ◌<◌, ◌≤◌, ◌++◌, ◌∷◌, [], cond, eqb, length, min, take, Option, Some};
-ghost use Rattle.std.specs.Ordering.{int_eq};
-ghost use Rattle.std.specs.Set.{distinct_count};
-ghost use Rattle.mix_num.specs.Ranges.{Lies};
+// How the number of cells of a list grows with a bid of negative weight.
+ghost use Rattle.std.specs.Prelude.{◌≡◌, ℕ, ◌+◌, ◌-◌, ◌^◌, ◌<◌, ◌≤◌, ◌++◌, ◌∷◌, [], cond, eqb, get_or, int_lt, length, min, pos, true, false, List};
+ghost use Rattle.std.specs.Option.{is_some};
+ghost use Rattle.mix_num.specs.Vectors.{members};
 ghost use Rattle.mix_bids.specs.Bids.{AreBids, IsBid};
-ghost use Rattle.mix_bids.specs.Levels.{differences, is_lead};
-ghost use Rattle.mix_bids.specs.Cells.{cells as cells_of, factor as factor_of, level_cells as level_cells_of, level_leads, sum_below};
-ghost use Rattle.mix_bids.specs.Counted.{growth as growth_of, is_among, level_lead as level_lead_of, new_in};
+ghost use Rattle.mix_bids.specs.Offers.{offer as offer_of};
+ghost use Rattle.mix_bids.specs.Levels.{other as other_of};
+ghost use Rattle.mix_bids.specs.Cells.{cells as cells_of, sum_below};
+ghost use Rattle.mix_bids.specs.Counted.{cells_of_leads, growth as growth_of, leads_at, triangle, AreKept, AreLeads, IsCounted, IsKnown};
+ghost use Rattle.mix_bids.specs.declared.bid.Bid.{Bid as BidOf};
 
+use crate::agreements::{Agreement, agreements, shared_at};
 use crate::bid::Bid;
-use crate::leads::{has_difference, negative_lead, other};
+use crate::choices::{beyond, with_where};
+use crate::leads::{offer, other};
+use mix_num::Set;
 
-/// Two choices and a difference at which bids of negative weight are torn between them.
+/// How many different leads each other choice has at the levels of a bid of negative weight, counted among the bids up to it. The
+/// pairs of choices stand in the order of their second ones and then of their first ones.
 #[derive(Clone, Copy, Drop)]
-struct Level {
-    first: usize,
-    second: usize,
-    difference: i64,
+pub struct Counts {
+    levels: [[u16; 7]; 36],
 }
 
-/// The number of cells of the bids with one more at their end, counted to 4,194,305, where `cells` is the number without it.
-pub fn cells_with(goods: usize, bids: &[Bid], cells: u64, bid: &Bid) -> u64
+/// The number of cells of a list with one bid more, and what that bid keeps.
+#[derive(Clone, Copy, Drop)]
+pub struct Tally {
+    pub cells: u64,
+    pub counts: Counts,
+}
+
+/// What is known of a new bid of negative weight: the choices that it offers, what the bids of negative weight before it keep, and
+/// their agreements with it.
+#[derive(Drop)]
+struct Known<'a> {
+    goods: usize,
+    offers: Set,
+    kept: &'a [Counts],
+    agreements: &'a [Agreement],
+}
+
+/// By how much the cells of two choices grow with a bid, and how many different leads each other choice has at its level then.
+#[derive(Clone, Copy, Drop)]
+struct Growth {
+    cells: u64,
+    leads: [u16; 7],
+}
+
+/// The number of cells of the bids with one of negative weight more at their end, counted to 4,194,305, where `cells` is the number
+/// without it; and what that bid keeps, where `kept` is what those before it do.
+pub fn tally_with(goods: usize, bids: &[Bid], kept: &[Counts], cells: u64, bid: &Bid) -> Tally
     requires goods { (1 ≤ goods) × (goods ≤ 8) }
     requires few { length bids.now < 400 }
     requires bids { AreBids goods bids.now }
     requires bid { IsBid goods bid.now }
+    requires negative { int_lt bid.now.weight (pos 0) ≡ true }
+    requires kept { AreKept goods bids.now kept.now }
     requires cells { cells ≡ min (cells_of (record { goods = goods; bids = bids.now })) 4194305 }
-    ensures { result ≡ min (cells_of (record { goods = goods; bids = bids.now ++ bid.now ∷ [] })) 4194305 }
+    ensures cells { result.cells ≡ min (cells_of (record { goods = goods; bids = bids.now ++ bid.now ∷ [] })) 4194305 }
+    ensures counts { IsCounted goods (bids.now ++ bid.now ∷ []) bid.now result.counts }
 {
-    let mut counted = cells;
+    let agreements = agreements(bids, bid);
+    let known = Known {
+        goods,
+        offers: offers(bid),
+        kept,
+        agreements: agreements.as_slice(),
+    };
+    let mut tally = Tally {
+        cells,
+        counts: Counts {
+            levels: [[0; 7]; 36],
+        },
+    };
+    let mut start = 0;
     for second in 0..goods + 1 {
-        counted = with_pairs_below(goods, bids, counted, bid, second);
+        tally = with_pairs_below(&known, tally, second, start);
+        start += second;
     }
-    counted
+    tally
 }
 
-/// Adds the growth of the cells of all pairs with this second choice, counted to 4,194,305.
-fn with_pairs_below(goods: usize, bids: &[Bid], cells: u64, bid: &Bid, second: usize) -> u64
-    requires goods { (1 ≤ goods) × (goods ≤ 8) }
-    requires second { second ≤ goods }
-    requires few { length bids.now < 400 }
-    requires bids { AreBids goods bids.now }
-    requires bid { IsBid goods bid.now }
-    requires cells { cells ≤ 4194305 }
-    ensures sum { result ≡ min (cells + sum_below second (λ i. growth_of goods bids.now bid.now i second)) 4194305 }
-    ensures range { result ≤ 4194305 }
+/// The choices that a bid offers.
+fn offers(bid: &Bid) -> Set
+    requires { IsBid (length bid.now.values.items) bid.now }
+    ensures { (c : ℕ) → c < 9 → members result c ≡ is_some (offer_of bid.now.values.items c) }
 {
-    let mut counted = cells;
-    for first in 0..second {
-        counted = capped(counted + growth(goods, bids, bid, first, second));
+    let mut set = Set::from_bits(0);
+    for choice in 0..9 {
+        set = with_where(offer(&bid.values, choice).is_some(), set, choice);
     }
-    counted
+    set
+}
+
+/// Adds the growth of the cells of all pairs with this second choice, counted to 4,194,305, and what the bid keeps of these pairs,
+/// from place `start` on.
+fn with_pairs_below(known: &Known, before: Tally, second: usize, start: usize) -> Tally
+    requires known { (bs : List BidOf) × (b : BidOf) × IsKnown known.now.goods bs b known.now.offers known.now.kept.now known.now.agreements.now }
+    requires second { second ≤ known.now.goods }
+    requires start { start ≡ triangle second }
+    requires cells { before.cells ≤ 4194305 }
+    requires size { length before.counts.levels ≡ 36 }
+    ensures range { result.cells ≤ 4194305 }
+    ensures size { length result.counts.levels ≡ 36 }
+    ensures sum { (bs : List BidOf) (b : BidOf) → IsKnown known.now.goods bs b known.now.offers known.now.kept.now known.now.agreements.now →
+        result.cells ≡ min (before.cells + sum_below second (λ i. growth_of known.now.goods bs b i second)) 4194305 }
+    ensures counts { (bs : List BidOf) (b : BidOf) → IsKnown known.now.goods bs b known.now.offers known.now.kept.now known.now.agreements.now →
+        (i : ℕ) → i < second → AreLeads known.now.goods (bs ++ b ∷ []) b i second (leads_at result.counts i second) }
+    ensures others { (i j : ℕ) → i < j → j < second → leads_at result.counts i j ≡ leads_at before.counts i j }
+{
+    let mut tally = before;
+    for first in 0..second {
+        let growth = pair_growth(known, first, second, start + first);
+        tally.cells = capped(tally.cells + growth.cells);
+        let leads = growth.leads;
+        tally.counts.levels[start + first] = leads;
+    }
+    tally
 }
 
 /// The number, or 4,194,305 where it is greater.
@@ -60,169 +125,124 @@ fn capped(cells: u64) -> u64
     cells.min(4194305)
 }
 
-/// By how much the cells of two choices grow with a bid: by those of its level with it less those without it, if there was the level.
-fn growth(goods: usize, bids: &[Bid], bid: &Bid, first: usize, second: usize) -> u64
-    requires goods { (1 ≤ goods) × (goods ≤ 8) }
+/// By how much the cells of two choices grow: by those of the bid's level with it less those without it, if there was the level.
+fn pair_growth(known: &Known, first: usize, second: usize, place: usize) -> Growth
+    requires known { (bs : List BidOf) × (b : BidOf) × IsKnown known.now.goods bs b known.now.offers known.now.kept.now known.now.agreements.now }
+    requires order { first < second }
+    requires second { second ≤ known.now.goods }
+    requires place { place ≡ triangle second + first }
+    ensures range { result.cells ≤ 401 ^ 7 }
+    ensures cells { (bs : List BidOf) (b : BidOf) → IsKnown known.now.goods bs b known.now.offers known.now.kept.now known.now.agreements.now →
+        result.cells ≡ growth_of known.now.goods bs b first second }
+    ensures leads { (bs : List BidOf) (b : BidOf) → IsKnown known.now.goods bs b known.now.offers known.now.kept.now known.now.agreements.now →
+        AreLeads known.now.goods (bs ++ b ∷ []) b first second result.leads }
+{
+    if !has_both(known.offers, first, second) {
+        return Growth {
+            cells: 0,
+            leads: [0; 7],
+        };
+    }
+    let shared = shared_at(known.agreements, first, second);
+    let fresh = beyond(known.offers, shared.choices);
+    match shared.last {
+        Some(last) => grown(
+            known.kept[last].levels[place],
+            fresh,
+            known.goods,
+            first,
+            second,
+        ),
+        None => new_level(fresh, known.goods, first, second),
+    }
+}
+
+/// Whether a set has two choices.
+fn has_both(set: Set, first: usize, second: usize) -> bool
+    requires first { first ≤ 8 }
+    requires second { second ≤ 8 }
+    ensures { result ≡ cond (members set first) (members set second) false }
+{
+    set.has(first) && set.has(second)
+}
+
+/// One bid more at a level, which has a lead that is new for each choice of a set.
+fn grown(before: [u16; 7], fresh: Set, goods: usize, first: usize, second: usize) -> Growth
     requires order { first < second }
     requires second { second ≤ goods }
-    requires few { length bids.now < 400 }
-    requires bids { AreBids goods bids.now }
-    requires bid { IsBid goods bid.now }
-    ensures value { result ≡ growth_of goods bids.now bid.now first second }
-    ensures range { result ≤ 401 ^ 7 }
+    requires goods { goods ≤ 8 }
+    requires few { (k : ℕ) → k < goods - 1 → get_or before k 0 ≤ 399 }
+    ensures leads { (k : ℕ) → k < goods - 1 → get_or result.leads k 0 ≡ get_or before k 0 + cond (members fresh (other_of first second k)) 1 0 }
+    ensures cells { result.cells ≡ cells_of_leads goods first second result.leads - cells_of_leads goods first second before }
+    ensures range { result.cells ≤ 401 ^ 7 }
 {
-    let Some(difference) = negative_lead(bid, first, second) else {
-        return 0;
-    };
-    let level = Level {
-        first,
-        second,
-        difference,
-    };
-    if has_level(bids, level) {
-        level_cells_with(goods, bids, bid, level) - level_cells(goods, bids, level)
-    } else {
-        level_cells_with(goods, &bids[..0], bid, level)
+    let leads = with_fresh(before, fresh, goods, first, second);
+    let cells = level_cells(&leads, goods, first, second);
+    Growth {
+        cells: cells - level_cells(&before, goods, first, second),
+        leads,
     }
 }
 
-/// Whether a bid of negative weight has the difference.
-fn has_level(bids: &[Bid], level: Level) -> bool
-    requires goods { (n : ℕ) × AreBids n bids.now × (level.first ≤ n) × (level.second ≤ n) }
-    ensures { result ≡ is_among (differences level.first level.second bids.now) level.difference }
+/// The first bid of a level, which has a lead for each choice of a set.
+fn new_level(fresh: Set, goods: usize, first: usize, second: usize) -> Growth
+    requires order { first < second }
+    requires second { second ≤ goods }
+    requires goods { goods ≤ 8 }
+    ensures leads { (k : ℕ) → k < goods - 1 → get_or result.leads k 0 ≡ cond (members fresh (other_of first second k)) 1 0 }
+    ensures cells { result.cells ≡ cells_of_leads goods first second result.leads }
+    ensures range { result.cells ≤ 401 ^ 7 }
 {
-    for bid in bids {
-        if is_at(
-            negative_lead(bid, level.first, level.second),
-            level.difference,
-        ) {
-            return true;
-        }
-    }
-    false
-}
-
-/// Whether a lead is there and is this number.
-fn is_at(lead: Option<i64>, number: i64) -> bool
-    ensures { result ≡ is_lead lead number }
-{
-    match lead {
-        Some(lead) => lead == number,
-        None => false,
+    let leads = with_fresh([0; 7], fresh, goods, first, second);
+    Growth {
+        cells: level_cells(&leads, goods, first, second),
+        leads,
     }
 }
 
-/// The number of cells of a level.
-fn level_cells(goods: usize, bids: &[Bid], level: Level) -> u64
-    requires goods { (1 ≤ goods) × (goods ≤ 8) }
-    requires order { level.first < level.second }
-    requires second { level.second ≤ goods }
-    requires few { length bids.now ≤ 400 }
-    requires bids { AreBids goods bids.now }
-    requires difference { Lies 1000000 level.difference }
-    ensures value { result ≡ level_cells_of goods level.first level.second bids.now level.difference }
+/// One lead more for each choice of a set.
+fn with_fresh(before: [u16; 7], fresh: Set, goods: usize, first: usize, second: usize) -> [u16; 7]
+    requires order { first < second }
+    requires second { second ≤ goods }
+    requires goods { goods ≤ 8 }
+    requires few { (k : ℕ) → k < goods - 1 → get_or before k 0 ≤ 399 }
+    ensures { (k : ℕ) → k < goods - 1 → get_or result k 0 ≡ get_or before k 0 + cond (members fresh (other_of first second k)) 1 0 }
+{
+    let mut leads = before;
+    for place in 0..goods - 1 {
+        leads[place] += one_where(fresh.has(other(first, second, place)));
+    }
+    leads
+}
+
+/// 1 where the test holds, else 0.
+fn one_where(test: bool) -> u16
+    ensures { result ≡ cond test 1 0 }
+{
+    if test { 1 } else { 0 }
+}
+
+/// The number of cells of a level where the other choices have so many different leads.
+fn level_cells(leads: &[u16], goods: usize, first: usize, second: usize) -> u64
+    requires size { length leads.now ≡ 7 }
+    requires order { first < second }
+    requires second { second ≤ goods }
+    requires goods { goods ≤ 8 }
+    requires few { (k : ℕ) → k < goods - 1 → get_or leads.now k 0 ≤ 400 }
+    ensures value { result ≡ cells_of_leads goods first second leads.now }
     ensures range { result ≤ 401 ^ 7 }
 {
     let mut product = 1;
     for place in 0..goods - 1 {
-        product *= factor(bids, level, other(level.first, level.second, place));
+        product *= one_for_good(other(first, second, place)) + leads[place] as u64;
     }
     product
-}
-
-/// The number of cells of a level with one more bid.
-fn level_cells_with(goods: usize, bids: &[Bid], bid: &Bid, level: Level) -> u64
-    requires goods { (1 ≤ goods) × (goods ≤ 8) }
-    requires order { level.first < level.second }
-    requires second { level.second ≤ goods }
-    requires few { length bids.now < 400 }
-    requires bids { AreBids goods bids.now }
-    requires bid { IsBid goods bid.now }
-    requires difference { Lies 1000000 level.difference }
-    ensures value { result ≡ level_cells_of goods level.first level.second (bids.now ++ bid.now ∷ []) level.difference }
-    ensures range { result ≤ 401 ^ 7 }
-{
-    let mut product = 1;
-    for place in 0..goods - 1 {
-        let choice = other(level.first, level.second, place);
-        product *= factor(bids, level, choice) + new_lead(bids, level, choice, bid);
-    }
-    product
-}
-
-/// The factor of another choice at a level: how many different leads it has, and for a good one more.
-fn factor(bids: &[Bid], level: Level, choice: usize) -> u64
-    requires few { length bids.now ≤ 400 }
-    requires goods { (n : ℕ) × AreBids n bids.now × (level.first ≤ n) × (level.second ≤ n) × (choice ≤ n) }
-    requires difference { Lies 1000000 level.difference }
-    ensures value { result ≡ factor_of level.first level.second level.difference bids.now choice }
-    ensures range { result ≤ suc (length bids.now) }
-{
-    one_for_good(choice) + count_leads(bids, level, choice)
 }
 
 /// 1 for a good, and 0 for the null choice.
 fn one_for_good(choice: usize) -> u64
-    ensures { result ≡ cond (eqb choice 0) 0 1 }
-{
-    if choice == 0 { 0 } else { 1 }
-}
-
-/// How many different leads a choice has at a level.
-fn count_leads(bids: &[Bid], level: Level, choice: usize) -> u64
-    requires few { length bids.now ≤ 400 }
-    requires goods { (n : ℕ) × AreBids n bids.now × (level.first ≤ n) × (level.second ≤ n) × (choice ≤ n) }
-    requires difference { Lies 1000000 level.difference }
-    ensures value { result ≡ distinct_count int_eq (level_leads level.first level.second level.difference choice bids.now) }
-    ensures range { result ≤ length bids.now }
-{
-    let mut count = 0;
-    for place in 0..bids.len() {
-        count += new_lead(&bids[..place], level, choice, &bids[place]);
-    }
-    count
-}
-
-/// 1 where a bid has a lead of the choice at the level that none of the bids has, else 0.
-fn new_lead(bids: &[Bid], level: Level, choice: usize, bid: &Bid) -> u64
-    requires goods { (n : ℕ) × AreBids n bids.now × IsBid n bid.now × (level.first ≤ n) × (level.second ≤ n) × (choice ≤ n) }
-    requires difference { Lies 1000000 level.difference }
-    ensures value { result ≡ new_in (level_leads level.first level.second level.difference choice bids.now) (level_lead_of level.first level.second level.difference choice bid.now) }
+    ensures value { result ≡ cond (eqb choice 0) 0 1 }
     ensures range { result ≤ 1 }
 {
-    let Some(lead) = level_lead(bid, level, choice) else {
-        return 0;
-    };
-    if has_lead(bids, level, choice, lead) {
-        0
-    } else {
-        1
-    }
-}
-
-/// Whether a bid of negative weight of the level has this lead of the choice.
-fn has_lead(bids: &[Bid], level: Level, choice: usize, lead: i64) -> bool
-    requires goods { (n : ℕ) × AreBids n bids.now × (level.first ≤ n) × (level.second ≤ n) × (choice ≤ n) }
-    requires difference { Lies 1000000 level.difference }
-    ensures { result ≡ is_among (level_leads level.first level.second level.difference choice bids.now) lead }
-{
-    for bid in bids {
-        if is_at(level_lead(bid, level, choice), lead) {
-            return true;
-        }
-    }
-    false
-}
-
-/// By how much a bid of negative weight of the level values the choice above the first one, if it offers it.
-fn level_lead(bid: &Bid, level: Level, choice: usize) -> Option<i64>
-    requires goods { (n : ℕ) × IsBid n bid.now × (level.first ≤ n) × (level.second ≤ n) × (choice ≤ n) }
-    requires difference { Lies 1000000 level.difference }
-    ensures { result ≡ level_lead_of level.first level.second level.difference choice bid.now }
-{
-    if has_difference(bid, level.first, level.second, level.difference) {
-        negative_lead(bid, choice, level.first)
-    } else {
-        None
-    }
+    if choice == 0 { 0 } else { 1 }
 }

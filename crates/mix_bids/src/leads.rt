@@ -8,17 +8,18 @@ ghost use Rattle.mix_bids.specs.Leads.{lead as lead_between, lead_of, negative_l
 
 use crate::bid::{Bid, Values};
 
-/// What is offered for a choice: 0 for the null choice, else the value of the good, if it has one.
-fn offer(values: &Values, choice: usize) -> Option<i64>
-    requires choice { choice ≤ length values.now.items }
-    requires offers { AreOffers (length values.now.items) values.now.items }
+/// What is offered for a choice: 0 for the null choice, else the value of the good, if there is the good and it has one.
+pub fn offer(values: &Values, choice: usize) -> Option<i64>
+    requires { AreOffers (length values.now.items) values.now.items }
     ensures value { result ≡ offer_of values.now.items choice }
     ensures range { IsOffer result }
 {
     if choice == 0 {
         Some(0)
-    } else {
+    } else if choice <= values.len() {
         values[choice - 1]
+    } else {
+        None
     }
 }
 

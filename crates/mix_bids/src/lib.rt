@@ -1,6 +1,7 @@
 //! Bids, lists of bids, and their indirect utility.
 #![tactic(auto)]
 
+mod agreements;
 mod all_sets;
 mod best;
 mod bid;

@@ -1,5 +1,5 @@
 // A list of bids over the same goods.
-ghost use Rattle.std.specs.Prelude.{◌≡◌, ◌≤◌, ◌<◌, ◌↔◌, min, ◌++◌, ◌∷◌, [], length, pos, ◌≤ℤ◌, ◌-ℤ◌, OnErr, OnOk, IfOk};
+ghost use Rattle.std.specs.Prelude.{◌≡◌, ◌≤◌, ◌<◌, ◌↔◌, min, ◌++◌, ◌∷◌, [], length, pos, ◌≤ℤ◌, ◌-ℤ◌, true, false, int_lt, OnErr, OnOk, IfOk};
 ghost use Rattle.mix_num.specs.Vectors.{members, minus, plus, with_null};
 ghost use Rattle.mix_num.specs.Ranges.{ArePrices, Lies};
 ghost use Rattle.mix_bids.specs.Cells.{cells as cells_of};
@@ -8,18 +8,20 @@ ghost use Rattle.mix_bids.specs.Bids.{facet_weight as facet_weight_of, top_value
 use crate::best::best_set;
 use crate::bid::Bid;
 use crate::choices::{lies_in, meets, pair_of};
-use crate::counts::cells_with;
+use crate::counts::{Counts, tally_with};
 use crate::gain::{better, gain};
 use crate::sums::{weigh, weight_where};
 use mix_num::{Memory, Prices, Set};
 use std::alloc::Global;
 use std::marker::Model;
 
-/// At most 400 bids over 1 to 8 goods, and how many cells they have, counted to 4,194,305.
+/// At most 400 bids over 1 to 8 goods, and how many cells they have, counted to 4,194,305. Each bid of negative weight keeps how many
+/// different leads there are at its levels, so that a push need not count them anew.
 #[derive(Drop)]
 pub struct BidList {
     goods: usize,
     bids: Vec<Bid>,
+    kept: Vec<Counts>,
     cells: u64,
 }
 
@@ -27,12 +29,13 @@ impl Model for BidList {
     ghost use Rattle.std.specs.Prelude.{◌≡◌, ◌≤◌, length, min};
     ghost use Rattle.mix_bids.specs.Bids.{AreBids, Book};
     ghost use Rattle.mix_bids.specs.Cells.{cells as cells_of};
+    ghost use Rattle.mix_bids.specs.Counted.{AreKept};
 
     ghost Value = { Book };
 
     ghost view = { λ list. record { goods = list.goods; bids = list.bids.items } };
 
-    ghost invariant = { λ list. (1 ≤ list.goods) × (list.goods ≤ 8) × (length list.bids.items ≤ 400) × AreBids list.goods list.bids.items × (list.cells ≡ min (cells_of (record { goods = list.goods; bids = list.bids.items })) 4194305) };
+    ghost invariant = { λ list. (1 ≤ list.goods) × (list.goods ≤ 8) × (length list.bids.items ≤ 400) × AreBids list.goods list.bids.items × AreKept list.goods list.bids.items list.kept.items × (list.cells ≡ min (cells_of (record { goods = list.goods; bids = list.bids.items })) 4194305) };
 }
 
 impl BidList {
@@ -44,6 +47,7 @@ impl BidList {
         BidList {
             goods,
             bids: Vec::new(alloc),
+            kept: Vec::new(alloc),
             cells: 0,
         }
     }
@@ -55,11 +59,44 @@ impl BidList {
         ensures ok { OnOk result (self.new ≡ record self.old { bids = self.old.bids ++ bid ∷ [] }) }
         ensures err { OnErr result (self.new ≡ self.old) }
     {
-        let cells = cells_with(self.goods, &self.bids, self.cells, &bid);
+        if bid.is_negative() {
+            self.push_negative(bid)
+        } else {
+            self.push_positive(bid)
+        }
+    }
+
+    /// Adds a bid of positive weight, which changes no level.
+    fn push_positive(&mut self, bid: Bid) -> Result<(), Memory>
+        requires bid { IsBid self.old.goods bid }
+        requires positive { int_lt bid.weight (pos 0) ≡ false }
+        requires room { length self.old.bids < 400 }
+        ensures ok { OnOk result (self.new ≡ record self.old { bids = self.old.bids ++ bid ∷ [] }) }
+        ensures err { OnErr result (self.new ≡ self.old) }
+    {
         let Ok(()) = self.bids.push(bid) else {
             return Err(Memory);
         };
-        self.cells = cells;
+        Ok(())
+    }
+
+    /// Adds a bid of negative weight, which keeps how many leads there are at its levels.
+    fn push_negative(&mut self, bid: Bid) -> Result<(), Memory>
+        requires bid { IsBid self.old.goods bid }
+        requires negative { int_lt bid.weight (pos 0) ≡ true }
+        requires room { length self.old.bids < 400 }
+        ensures ok { OnOk result (self.new ≡ record self.old { bids = self.old.bids ++ bid ∷ [] }) }
+        ensures err { OnErr result (self.new ≡ self.old) }
+    {
+        let tally = tally_with(self.goods, &self.bids, &self.kept, self.cells, &bid);
+        let Ok(()) = self.kept.push(tally.counts) else {
+            return Err(Memory);
+        };
+        let Ok(()) = self.bids.push(bid) else {
+            self.kept.pop();
+            return Err(Memory);
+        };
+        self.cells = tally.cells;
         Ok(())
     }
 
@@ -67,11 +104,16 @@ impl BidList {
     pub fn copy(&self, alloc: Global) -> Result<BidList, Memory>
         ensures { IfOk result (λ list. list ≡ self.now) }
     {
-        let mut list = BidList::new(alloc, self.goods());
-        for bid in self.bids() {
-            list.push(bid.copy())?;
-        }
-        Ok(list)
+        let Ok(kept) = Vec::from_slice(alloc, &self.kept) else {
+            return Err(Memory);
+        };
+        let bids = copies(alloc, &self.bids)?;
+        Ok(BidList {
+            goods: self.goods,
+            bids,
+            kept,
+            cells: self.cells,
+        })
     }
 
     /// The number of goods, from 1 to 8.
@@ -183,4 +225,17 @@ impl BidList {
         }
         sum
     }
+}
+
+/// Equal bids, or want of memory.
+fn copies(alloc: Global, bids: &[Bid]) -> Result<Vec<Bid>, Memory>
+    ensures { IfOk result (λ copies. copies.items ≡ bids.now) }
+{
+    let mut copies = Vec::new(alloc);
+    for bid in bids {
+        let Ok(()) = copies.push(bid.copy()) else {
+            return Err(Memory);
+        };
+    }
+    Ok(copies)
 }

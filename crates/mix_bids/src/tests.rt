@@ -185,6 +185,12 @@ fn cells_of_three_goods(rt: HostRuntime) -> Result<(), Fail> {
         cells_with(&mut list, bid_of_three(-1, 4, 6, 9))?,
         8 + 8 + 3 * 3 + 2 * 3 + 4 + 4
     );
+    // With the first bid the third one shares the levels of nothing and the first good and of the first and third good, with both
+    // that of nothing and the third good.
+    assert_eq!(rt;
+        cells_with(&mut list, bid_of_three(-1, 3, 8, 9))?,
+        (6 + 4) + 12 + 3 * 4 + (6 + 2) + (3 + 2) + 6
+    );
     Ok(())
 }
 
