@@ -1,0 +1,11 @@
+mod Canonicals
+mod Entries
+mod Exactings
+mod FirstPairs
+mod Gatherings
+mod Likenesses
+mod NearPoints
+mod NearPrices
+mod Orders
+mod PartWeights
+mod Readings

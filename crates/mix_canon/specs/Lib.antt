@@ -1,0 +1,3 @@
+pub mod Canons
+pub mod Maps
+pub mod Searches
