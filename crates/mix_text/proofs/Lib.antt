@@ -20,3 +20,4 @@ pub mod TieOrders
 pub mod FewCells
 pub mod NamesSoFar
 pub mod Upgrades
+pub mod OwnPlaces

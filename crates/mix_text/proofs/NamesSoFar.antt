@@ -12,7 +12,7 @@ use Rattle.mix_text.proofs.Gathering.{Unlike, different_unlike}
 use Rattle.mix_text.proofs.SoundAuctions.{not_alike, turned}
 
 -- a name that isn't among these is unlike each of them
-none_at : (y : List ℕ) (names : List (List ℕ)) (k : ℕ) → is_among y names ≡ false → k < length names → bytes_eq y (get_or names k []) ≡ false
+pub none_at : (y : List ℕ) (names : List (List ℕ)) (k : ℕ) → is_among y names ≡ false → k < length names → bytes_eq y (get_or names k []) ≡ false
 none_at y [] k h l = absurd (omega (arith, l))
 none_at y (z ∷ zs) zero h l = (not_alike (bytes_eq y z) (is_among y zs) h).0
 none_at y (z ∷ zs) (suc k) h l = none_at y zs k (not_alike (bytes_eq y z) (is_among y zs) h).1 (omega (arith, l))
