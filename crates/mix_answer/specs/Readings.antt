@@ -3,10 +3,10 @@ use Rattle.std.specs.Prelude.{◌≡◌, ◌==◌, ◌+◌, ◌-◌, ◌^◌, �
 use Rattle.std.specs.Str.{bytes_eq}
 use Rattle.mix_num.specs.declared.pair.Tight.{Tight}
 use Rattle.mix_text.specs.Auctions.{AuctionText}
-use Rattle.mix_text.specs.Bidders.{Named, names_at, place_of}
+use Rattle.mix_text.specs.Bidders.{names_at}
 use Rattle.mix_text.specs.Formats.{has_order}
 use Rattle.mix_text.specs.Names.{place_among}
-use Rattle.mix_text.specs.Reading.{◌>>=◌, begins, each_of, end_of, field_at, holds, number_in, numbers_of}
+use Rattle.mix_text.specs.Reading.{◌>>=◌, begins, bidder_of, each_of, end_of, field_at, found, holds, number_in, numbers_of}
 use Rattle.mix_text.specs.Rows.{RestText, RowText}
 use Rattle.mix_text.specs.Spelling.{spelled_name}
 use Rattle.mix_text.specs.declared.faults.Code.{Code}
@@ -40,18 +40,9 @@ unfoldable pub order_of : List (List ℕ) → List (List ℕ) → Result (Unit {
 order_of names fields =
     holds (begins fields (codes "order")) code.Place >>= λ _. holds (length fields == length names + 1) code.Fields >>= λ _. wanted_names names (drop 1 fields)
 
--- a place that is there
-abbrev pub there : Option ℕ → Result ℕ Code
-there (Some k) = Ok k
-there None = Err code.Other
-
--- the place of a bidder, told by its name
-unfoldable pub bidder_of : Named → List ℕ → Result ℕ Code
-bidder_of bidders field = spelled_name field >>= λ name. there (place_of name bidders)
-
 -- a choice: `-` for the null choice, else the name of a good, the goods being numbered from 1
 unfoldable pub choice_of : List (List ℕ) → List ℕ → Result ℕ Code
-choice_of goods field = if bytes_eq field (codes "-") then Ok 0 else (spelled_name field >>= λ name. there (place_among name goods) >>= λ j. Ok (suc j))
+choice_of goods field = if bytes_eq field (codes "-") then Ok 0 else (spelled_name field >>= λ name. found (place_among name goods) >>= λ j. Ok (suc j))
 
 -- a set of n goods and the null choice, told by its number
 unfoldable pub set_of : ℕ → List ℕ → Result ℕ Code

@@ -2,9 +2,9 @@
 ghost use Rattle.std.specs.Prelude.{◌≡◌, ◌≤◌, ◌<◌, ◌≤ℤ◌, ◌+◌, pos, neg_ℤ, length, drop, nat_abs, nat_lt, IfOk, IfErr};
 ghost use Rattle.mix_text.specs.AuctionTexts.{auction_text};
 ghost use Rattle.mix_text.specs.Bidders.{names_at};
-ghost use Rattle.mix_text.specs.Reading.{end_of, field_at, holds};
+ghost use Rattle.mix_text.specs.Reading.{bidder_of, end_of, field_at, holds};
 ghost use Rattle.mix_answer.specs.Outcomes.{version_of};
-ghost use Rattle.mix_answer.specs.Readings.{bidder_of, choice_of, cleared_of, head_of, numbers_at, order_of, refusal_of, refusal_row_of, set_of, share_of, tight_of, wanted_name, wanted_names};
+ghost use Rattle.mix_answer.specs.Readings.{choice_of, cleared_of, head_of, numbers_at, order_of, refusal_of, refusal_row_of, set_of, share_of, tight_of, wanted_name, wanted_names};
 
 use crate::refusal::Refusal;
 use crate::share::Share;
@@ -25,7 +25,6 @@ fn read_wanted(row: &Row, k: usize, wanted: &Name) -> Result<(), Code>
 }
 
 // The place of the bidder that the name at a place tells.
-#[tactic(auto, unfolding(crate::specs::Readings::bidder_of))]
 fn read_bidder(row: &Row, k: usize, bidders: &Bidders) -> Result<usize, Code>
     requires { k < length row.now.fields }
     ensures { result ≡ bidder_of bidders.now (field_at row.now.fields k) }

@@ -3,7 +3,6 @@
 use Rattle.std.proofs.Common.{◌≡◌, ◌≢◌, ℕ, zero, suc, ◌+◌, ◌-◌, ◌*◌, ◌<◌, ◌≤◌, Bool, true, false, cond, List, [], ◌∷◌, ℤ, pos, Option, Some, None, length, refl, arith, sym, ap, ◌∙◌, int_eq, int_lt, filter_map, true≢false, ◌||◌, eqb}
 use Rattle.std.specs.Prelude.{count_by}
 use Rattle.std.specs.List.{cons_option, sum_by}
-use Rattle.std.specs.Set.{distinct_count}
 use Rattle.std.proofs.lemmas.List.Sums.{count_by-le-length, sum_by-cons, sum_by-le-sum_by}
 use Rattle.std.proofs.lemmas.Map.Made.{distinct_count-le}
 use Rattle.std.proofs.lemmas.Nat.{mul-le}

@@ -1,5 +1,5 @@
 -- Names that are copied one after the other: each is unlike those before it.
-use Rattle.std.proofs.Common.{◌≡◌, ◌<◌, ◌||◌, ℕ, zero, suc, List, [], ◌∷◌, length, map, take, get_or, sym, ◌∙◌, ap, arith, refl, subst, Bool, true, false, Some, None, cond}
+use Rattle.std.proofs.Common.{◌≡◌, ◌<◌, ℕ, zero, suc, List, [], ◌∷◌, length, map, take, get_or, sym, ◌∙◌, ap, arith, refl, subst, Bool, false, None}
 use Rattle.std.specs.List.{list_any, position}
 use Rattle.std.specs.Str.{bytes_eq}
 use Rattle.std.proofs.lemmas.List.{get_or-map, length-map}

@@ -9,7 +9,6 @@ use Rattle.mix_num.specs.Orders.{places}
 use Rattle.mix_text.specs.Bidders.{Named}
 use Rattle.mix_text.specs.Reading.{◌>>=◌, NamedBid, bid_row_of, bids_from, end_from, end_of, ends_bids, is_order_row, limit_of, order_from, order_row_of, placed, read_at}
 use Rattle.mix_text.specs.declared.faults.Code.{Code}
-use Rattle.mix_text.specs.declared.faults.Code.TheVariants as code
 use Rattle.mix_text.specs.declared.faults.What.{What}
 use Rattle.mix_text.specs.declared.faults.TextError.TheVariants as error
 use Rattle.mix_text.specs.declared.formats.Limits.{Limits}

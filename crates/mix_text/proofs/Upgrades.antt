@@ -1,12 +1,11 @@
 -- An auction of format 1 is one of format 2, and keeps to its limits.
-use Rattle.std.proofs.Common.{◌≡◌, ◌≤◌, false, ℕ, List, length, arith, refl, ap, subst, Some, All, nat_lt}
+use Rattle.std.proofs.Common.{◌≡◌, ◌≤◌, false, ℕ, List, length, arith, refl, subst, All, nat_lt}
 use Rattle.std.specs.Prelude.{count_by}
 use Rattle.std.proofs.lemmas.Bool.Decides.{nat_tests}
-use Rattle.std.proofs.lemmas.List.Elements.{All-weaker}
 use Rattle.mix_bids.specs.Bids.{Book}
 use Rattle.mix_bids.specs.Cells.{cells}
-use Rattle.mix_text.specs.Auctions.{AuctionText, IsAuction, IsBook}
-use Rattle.mix_text.specs.Formats.{is_past, limits_of, mix_one, mix_two}
+use Rattle.mix_text.specs.Auctions.{AuctionText, IsAuction}
+use Rattle.mix_text.specs.Formats.{limits_of, mix_one, mix_two}
 use Rattle.mix_text.specs.Limits.{BidsMeet, MeetsLimits}
 use Rattle.mix_text.specs.Reading.{is_negative}
 use Rattle.mix_text.specs.declared.formats.Limits.{Limits}

@@ -1,4 +1,4 @@
-use Rattle.std.proofs.Common.{◌≡◌, ◌∙◌, sym, ap, inr, arith, refl, ◌<◌, ◌+◌, ℕ, List, ◌∷◌, ◌++◌, [], length, drop, Ok, Err, Result, slice_index_or}
+use Rattle.std.proofs.Common.{◌≡◌, ◌∙◌, sym, ap, inr, arith, ◌<◌, ◌+◌, ℕ, List, ◌∷◌, ◌++◌, [], length, drop, Ok, Err, Result, slice_index_or}
 use Rattle.std.proofs.lemmas.List.{drop_all}
 use Rattle.mix_text.specs.Rows.{RowText}
 use Rattle.mix_text.specs.Reading.{NamedBid, bids_from}

@@ -1,4 +1,4 @@
-use Rattle.std.proofs.Common.{◌≡◌, ◌<◌, ◌∙◌, sym, ap, ap₂, arith, length}
+use Rattle.std.proofs.Common.{◌<◌, ◌∙◌, ap₂, arith, length}
 use Rattle.mix_text.specs.Bidders.{place_of}
 use Rattle.mix_text.proofs.NamesSoFar.{new_bidder}
 use Rattle.mix_text.proofs.bidders.Bidders.copy.Goals as goal

@@ -1,4 +1,4 @@
-use Rattle.std.proofs.Common.{◌≡◌, ◌<◌, ◌∙◌, sym, ap, ap₂, arith, length}
+use Rattle.std.proofs.Common.{◌<◌, ◌∙◌, ap₂, arith, length}
 use Rattle.mix_text.specs.Names.{is_among}
 use Rattle.mix_text.proofs.NamesSoFar.{new_name}
 use Rattle.mix_text.proofs.names.Names.copy.Goals as goal
