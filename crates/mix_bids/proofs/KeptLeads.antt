@@ -33,14 +33,6 @@ negatives_are (b ∷ bs) = at (int_lt b.weight (pos 0)) refl (negatives_are bs)
     at true e r = first (negatives bs) e r
     at false e r = r
 
-pub negatives_few : (bs : List Bid) → length (negatives bs) ≤ length bs
-negatives_few [] = omega arith
-negatives_few (b ∷ bs) = at (int_lt b.weight (pos 0)) (negatives_few bs)
-  where
-    at : (t : Bool) → length (negatives bs) ≤ length bs → length (cond t (b ∷ negatives bs) (negatives bs)) ≤ suc (length bs)
-    at true r = omega arith
-    at false r = omega arith
-
 -- ---- bids of positive weight have no part in any level
 
 no_level_lead : (i j : ℕ) (d : ℤ) (c : ℕ) (b : Bid) → int_lt b.weight (pos 0) ≡ false → level_lead i j d c b ≡ None

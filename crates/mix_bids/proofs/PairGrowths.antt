@@ -158,7 +158,7 @@ lacking_lead (Some v) (Some u) h = absurd (false≢true (sym h))
 has_lead_of : (o : Option ℤ) (d : ℤ) → o ≡ Some d → is_lead o d ≡ true
 has_lead_of o d e = ap (λ z. is_lead z d) e ∙ (int_eq_is d d).1 refl
 
-pub offered_both : (n : ℕ) (bs : List Bid) (b : Bid) (set : ℕ) (kept : List Counts) (rs : List Agreement) (i j : ℕ) → IsKnown n bs b set kept rs → i < j → j ≤ n → cond (members set i) (members set j) false ≡ true → (d : ℤ) × (lead_of b i j ≡ Some d)
+offered_both : (n : ℕ) (bs : List Bid) (b : Bid) (set : ℕ) (kept : List Counts) (rs : List Agreement) (i j : ℕ) → IsKnown n bs b set kept rs → i < j → j ≤ n → cond (members set i) (members set j) false ≡ true → (d : ℤ) × (lead_of b i j ≡ Some d)
 offered_both n bs b set kept rs i j known l m h =
     let q = known.most in
     let a = both (members set i) (members set j) h in
@@ -168,7 +168,7 @@ offered_both n bs b set kept rs i j known l m h =
     both true t h = (refl, h)
     both false t h = absurd (false≢true h)
 
-pub lacking_both : (n : ℕ) (bs : List Bid) (b : Bid) (set : ℕ) (kept : List Counts) (rs : List Agreement) (i j : ℕ) → IsKnown n bs b set kept rs → i < j → j ≤ n → cond (members set i) (members set j) false ≡ false → lead_of b i j ≡ None
+lacking_both : (n : ℕ) (bs : List Bid) (b : Bid) (set : ℕ) (kept : List Counts) (rs : List Agreement) (i j : ℕ) → IsKnown n bs b set kept rs → i < j → j ≤ n → cond (members set i) (members set j) false ≡ false → lead_of b i j ≡ None
 lacking_both n bs b set kept rs i j known l m h =
     let q = known.most in
     lacking_lead (offer b.values.items i) (offer b.values.items j) (ap₂ (λ s t. cond s t false) (sym (known.offers i (omega arith))) (sym (known.offers j (omega arith))) ∙ h)
