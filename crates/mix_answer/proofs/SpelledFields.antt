@@ -1,26 +1,23 @@
 -- Fields are read exactly where they are printed: numbers, sets, names, bidders and choices.
-use Rattle.std.proofs.Common.{◌≡◌, ◌∙◌, sym, ap, ap₂, refl, subst, ◌<◌, ◌≤◌, ◌^◌, ◌-◌, ◌≤ℤ◌, ℕ, zero, suc, ℤ, pos, negsuc, neg_ℤ, Bool, true, false, not, inl, inr, true≢false, List, [], ◌∷◌, length, map, get_or, nat_lt, nat_abs, arith, Option, Some, None, Result, Ok, All}
+use Rattle.std.proofs.Common.{◌≡◌, ◌∙◌, sym, ap, ap₂, refl, subst, ◌<◌, ◌≤◌, ◌^◌, ◌-◌, ◌≤ℤ◌, ℕ, zero, suc, ℤ, pos, negsuc, neg_ℤ, Bool, true, false, inl, inr, true≢false, List, [], ◌∷◌, length, map, get_or, nat_abs, arith, Option, Some, None, Result, Ok, All}
 use Rattle.std.specs.Prelude.{codes}
 use Rattle.std.specs.Fmt.{signed_decimal}
 use Rattle.std.specs.Int.RustNames.{FitsSigned}
-use Rattle.std.specs.List.{position, prefix_len}
 use Rattle.std.specs.Str.{bytes_eq}
 use mir.Syntax.{w64}
 use Rattle.std.proofs.lemmas.Bool.{cases_Bool}
-use Rattle.std.proofs.lemmas.Bool.Decides.{nat_tests}
 use Rattle.std.proofs.lemmas.Int.{ints}
-use Rattle.std.proofs.lemmas.List.{get_or-map, length-map}
 use Rattle.std.proofs.lemmas.List.Elements.{All-cons, All-head, All-nil, All-tail}
 use Rattle.std.proofs.lemmas.List.Quantifiers.{position-Some}
 use Rattle.mix_num.proofs.Cleared.{few_sets}
 use Rattle.mix_bids.specs.Bids.{Book}
 use Rattle.mix_text.specs.Bidders.{Named, name_at, place_of}
-use Rattle.mix_text.specs.Names.{AreNames, is_among, place_among}
+use Rattle.mix_text.specs.Names.{AreNames, place_among}
 use Rattle.mix_text.specs.Reading.{◌>>=◌, bidder_of, each_of, found, holds, number_in}
 use Rattle.mix_text.specs.Spelling.{is_name, spelled_name, spelled_number, between}
 use Rattle.mix_text.specs.declared.faults.Code.{Code}
 use Rattle.mix_text.specs.declared.faults.Code.TheVariants as code
-use Rattle.mix_text.proofs.Gathering.{Unlike, bytes_eq_refl, different_unlike, same_bytes}
+use Rattle.mix_text.proofs.Gathering.{Unlike, bytes_eq_refl, same_bytes}
 use Rattle.mix_text.proofs.OwnPlaces.{bidder_found, place_found, unlike_names}
 use Rattle.mix_text.proofs.PrintedNumbers.{number_printed, number_spelled}
 use Rattle.mix_text.proofs.Sound.{holds_ok, then_ok}

@@ -1,5 +1,5 @@
 -- The text of an outcome, read row by row: the outcome, or the first row with a fault.
-use Rattle.std.specs.Prelude.{◌≡◌, ◌==◌, ◌+◌, ◌-◌, ◌^◌, ◌⊎◌, ℕ, suc, ℤ, pos, neg_ℤ, nat_abs, List, [], ◌∷◌, ◌++◌, length, drop, take, map, nat_lt, if◌then◌else◌, Option, Some, None, Result, Ok, Err, codes}
+use Rattle.std.specs.Prelude.{◌≡◌, ◌==◌, ◌+◌, ◌-◌, ◌^◌, ◌⊎◌, ℕ, suc, ℤ, pos, neg_ℤ, nat_abs, List, [], ◌∷◌, ◌++◌, length, drop, take, map, nat_lt, if◌then◌else◌, Result, Ok, Err, codes}
 use Rattle.std.specs.Str.{bytes_eq}
 use Rattle.mix_num.specs.declared.pair.Tight.{Tight}
 use Rattle.mix_text.specs.Auctions.{AuctionText}

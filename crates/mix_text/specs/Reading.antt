@@ -101,7 +101,7 @@ bid_of n fields =
     holds (offers_some values) code.Nothing >>= λ _.
     Ok (record { name = name; bid = record { weight = weight; values = record { items = values } } })
 
--- a row that may stand where a bid may, and isn't the last: `bid`, and a bid
+-- a row that may stand where a bid may, and doesn't end the bids: `bid`, and a bid
 unfoldable pub bid_row_of : ℕ → List (List ℕ) → Result NamedBid Code
 bid_row_of n fields = holds (begins fields (codes "bid")) code.Place >>= λ _. bid_of n fields
 

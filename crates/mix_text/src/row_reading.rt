@@ -9,7 +9,7 @@ use crate::spelling::{Name, read_name, read_number};
 use mix_bids::{Bid, Values};
 use mix_num::Prices;
 
-// The fault of the row with this number.
+/// The fault of the row with this number.
 pub(crate) fn fault(number: u64, code: Code) -> TextError
     ensures { result ≡ TextError.Fault (record { at = number; code = code }) }
 {
@@ -189,7 +189,7 @@ pub fn read_bid(row: &Row, goods: usize) -> Result<(Name, Bid), Code>
     Ok((name, Bid { weight, values }))
 }
 
-/// Reads a row that stands where a bid may, and isn't the last.
+/// Reads a row that stands where a bid may, and doesn't end the bids.
 #[tactic(auto, unfolding(crate::specs::Reading::bid_row_of, crate::specs::Reading::bid_of))]
 pub(crate) fn read_bid_row(row: &Row, goods: usize) -> Result<(Name, Bid), Code>
     requires { (1 ≤ goods) × (goods ≤ 8) }

@@ -1,5 +1,5 @@
 -- The printed rows of an auction that keeps to the limits are read as that auction.
-use Rattle.std.proofs.Common.{◌≡◌, ◌∙◌, sym, ap, ap₂, refl, ◌<◌, ◌≤◌, ◌+◌, true, false, ℕ, pos, List, [], ◌∷◌, ◌++◌, length, drop, get_or, arith, subst, Result, Ok, nat_lt}
+use Rattle.std.proofs.Common.{◌≡◌, ◌∙◌, sym, ap, ap₂, refl, ◌<◌, ◌≤◌, ◌+◌, true, false, ℕ, pos, List, [], ◌∷◌, ◌++◌, length, get_or, arith, subst, Result, Ok, nat_lt}
 use Rattle.std.specs.Prelude.{codes}
 use Rattle.std.proofs.lemmas.Bool.Decides.{nat_tests}
 use Rattle.std.proofs.lemmas.List.{length-map}

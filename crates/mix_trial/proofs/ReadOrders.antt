@@ -1,21 +1,18 @@
 -- The printed row of the tie order is read as that order.
-use Rattle.std.proofs.Common.{◌≡◌, ◌≢◌, ◌∙◌, sym, ap, refl, subst, ◌<◌, ◌≤◌, ◌+◌, ◌-◌, ◌==◌, Bool, true, false, inl, inr, ℕ, zero, suc, List, [], ◌∷◌, ◌++◌, map, length, get_or, append_assoc, append-nil, arith, Ok, Result, cond}
-use Rattle.std.specs.Prelude.{codes}
+use Rattle.std.proofs.Common.{◌≡◌, ◌≢◌, ◌∙◌, sym, ap, refl, subst, ◌<◌, ◌≤◌, ◌+◌, ◌-◌, ◌==◌, true, false, inl, inr, ℕ, suc, List, [], ◌∷◌, ◌++◌, map, length, get_or, append_assoc, append-nil, arith, Ok}
 use Rattle.std.proofs.lemmas.Bool.{cases_Bool, false_from_ne_true}
 use Rattle.std.proofs.lemmas.Bool.Decides.{nat_tests}
 use Rattle.std.proofs.lemmas.List.{get_or_append_left, get_or-append_right, length-append, length-map}
-use Rattle.mix_bids.specs.Bids.{Book}
-use Rattle.mix_num.specs.Orders.{place_at, places}
+use Rattle.mix_num.specs.Orders.{place_at}
 use Rattle.mix_text.specs.Auctions.{AuctionText, IsAuction}
 use Rattle.mix_text.specs.Bidders.{Named, name_at, names_at}
 use Rattle.mix_text.specs.Formats.{has_order}
 use Rattle.mix_text.specs.Names.{AreNames}
 use Rattle.mix_text.specs.Orders.{IsTieOrder, is_served}
-use Rattle.mix_text.specs.Reading.{bidder_of, end_from, end_of, ends_bids, order_from, order_row_of, served_after}
+use Rattle.mix_text.specs.Reading.{end_from, end_of, ends_bids, order_from, order_row_of, served_after}
 use Rattle.mix_text.specs.Rows.{RowText, numbered}
-use Rattle.mix_text.specs.declared.faults.TextError.{TextError}
 use Rattle.mix_text.proofs.OwnPlaces.{bidder_found}
-use Rattle.mix_trial.specs.Printing.{auction_rows, end_row, order_row, order_rows}
+use Rattle.mix_trial.specs.Printing.{end_row, order_row, order_rows}
 
 -- different places, in a list after those seen
 abbrev AreApart : List ℕ → Type 0
