@@ -105,18 +105,18 @@ turn_wrong next read before all rows first k told wanted e here is w so_far =
 abbrev pub shares_read : ℕ → List ℕ × Book → List (List ℕ) → Result Share Code
 shares_read n bidder = share_of n bidder.0
 
-pub share_more : (next n : ℕ) (before : List Share) (bidders : Named) (rows : List RowText) (k : ℕ) (told : Result (List Share × List RowText) OutcomeError) (share : Share) → k < length bidders
-    → first_row next (share_of n (name_at bidders k)) (drop (3 + k) rows) ≡ Ok (share, drop (3 + k + 1) rows)
-    → following before (first_rows next (shares_read n) (drop k bidders) (drop (3 + k) rows)) ≡ told
-    → following (before ++ (share ∷ [])) (first_rows next (shares_read n) (drop (k + 1) bidders) (drop (3 + (k + 1)) rows)) ≡ told
-share_more next n before bidders rows k told share here e so_far =
-    turn_more next (shares_read n) before bidders rows 3 k told (bidder_at bidders k) share here (get_or_default bidders k (bidder_at bidders k) ([], record { goods = 0; bids = [] }) here) e so_far
+pub share_more : (next n : ℕ) (before : List Share) (bidders : Named) (rows : List RowText) (first k : ℕ) (told : Result (List Share × List RowText) OutcomeError) (share : Share) → k < length bidders
+    → first_row next (share_of n (name_at bidders k)) (drop (first + k) rows) ≡ Ok (share, drop (first + k + 1) rows)
+    → following before (first_rows next (shares_read n) (drop k bidders) (drop (first + k) rows)) ≡ told
+    → following (before ++ (share ∷ [])) (first_rows next (shares_read n) (drop (k + 1) bidders) (drop (first + (k + 1)) rows)) ≡ told
+share_more next n before bidders rows first k told share here e so_far =
+    turn_more next (shares_read n) before bidders rows first k told (bidder_at bidders k) share here (get_or_default bidders k (bidder_at bidders k) ([], record { goods = 0; bids = [] }) here) e so_far
 
-pub share_wrong : (next n : ℕ) (before : List Share) (bidders : Named) (rows : List RowText) (k : ℕ) (told : Result (List Share × List RowText) OutcomeError) (e : OutcomeError) → k < length bidders
-    → first_row next (share_of n (name_at bidders k)) (drop (3 + k) rows) ≡ Err e
-    → following before (first_rows next (shares_read n) (drop k bidders) (drop (3 + k) rows)) ≡ told → told ≡ Err e
-share_wrong next n before bidders rows k told e here w so_far =
-    turn_wrong next (shares_read n) before bidders rows 3 k told (bidder_at bidders k) e here (get_or_default bidders k (bidder_at bidders k) ([], record { goods = 0; bids = [] }) here) w so_far
+pub share_wrong : (next n : ℕ) (before : List Share) (bidders : Named) (rows : List RowText) (first k : ℕ) (told : Result (List Share × List RowText) OutcomeError) (e : OutcomeError) → k < length bidders
+    → first_row next (share_of n (name_at bidders k)) (drop (first + k) rows) ≡ Err e
+    → following before (first_rows next (shares_read n) (drop k bidders) (drop (first + k) rows)) ≡ told → told ≡ Err e
+share_wrong next n before bidders rows first k told e here w so_far =
+    turn_wrong next (shares_read n) before bidders rows first k told (bidder_at bidders k) e here (get_or_default bidders k (bidder_at bidders k) ([], record { goods = 0; bids = [] }) here) w so_far
 
 -- ---- the pairs of one bidder
 

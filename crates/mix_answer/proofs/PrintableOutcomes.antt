@@ -1,10 +1,11 @@
 -- The rows of an outcome may be printed, and so its text is read as them.
-use Rattle.std.proofs.Common.{◌≡◌, ◌∙◌, sym, ap, refl, ◌<◌, ◌≤◌, ◌+◌, ◌^◌, ◌≤ℤ◌, ℕ, zero, suc, ℤ, pos, neg_ℤ, Bool, true, List, [], ◌∷◌, ◌++◌, length, map, get_or, nat_lt, arith, Ok, All}
+use Rattle.std.proofs.Common.{◌≡◌, ◌∙◌, sym, ap, refl, ◌<◌, ◌≤◌, ◌+◌, ◌^◌, ◌≤ℤ◌, ℕ, zero, suc, ℤ, pos, neg_ℤ, Bool, true, List, [], ◌∷◌, ◌++◌, length, map, get_or, nat_lt, arith, inl, inr, Ok, All}
 use Rattle.std.specs.Prelude.{codes}
 use Rattle.std.specs.Fmt.{signed_decimal}
 use Rattle.std.specs.Int.RustNames.{FitsSigned}
 use Rattle.std.specs.List.{list_all, zip}
 use mir.Syntax.{w64}
+use Rattle.std.proofs.lemmas.Bool.{cases_Bool}
 use Rattle.std.proofs.lemmas.Bool.Decides.{nat_tests}
 use Rattle.std.proofs.lemmas.Int.{ints}
 use Rattle.std.proofs.lemmas.List.Elements.{All-append, All-cons, All-get_or, All-head, All-map, All-nil, All-tail, All-weaker}
@@ -14,14 +15,15 @@ use Rattle.mix_num.specs.Sellers.{IsAmount}
 use Rattle.mix_num.specs.declared.pair.Tight.{Tight}
 use Rattle.mix_num.proofs.Cleared.{few_sets}
 use Rattle.mix_text.specs.Auctions.{AuctionText, IsAuction}
-use Rattle.mix_text.specs.Bidders.{name_at}
+use Rattle.mix_text.specs.Bidders.{name_at, names_at}
+use Rattle.mix_text.specs.Formats.{has_order}
 use Rattle.mix_text.specs.Pages.{is_printable, is_printable_row}
 use Rattle.mix_text.specs.Rows.{numbered, rows_of}
 use Rattle.mix_text.specs.Spelling.{is_name}
 use Rattle.mix_text.proofs.PrintedNumbers.{signed_printable}
 use Rattle.mix_text.proofs.ReadBack.{rows_of-printed}
 use Rattle.mix_text.proofs.Spellings.{name_printable}
-use Rattle.mix_answer.specs.Outcomes.{BidderGood, amounts_row, answer_rows, bidders_goods, choice_text, cleared_row, end_row, head_row, inner_rows, outcome_rows, outcome_text, refusal_row, share_row, share_rows, tight_row, tight_rows}
+use Rattle.mix_answer.specs.Outcomes.{BidderGood, amounts_row, answer_rows, bidders_goods, choice_text, cleared_row, end_row, head_row, inner_rows, order_row, order_rows, outcome_rows, outcome_text, refusal_row, share_row, share_rows, tight_row, tight_rows, version_of}
 use Rattle.mix_answer.specs.Readings.{lines_of, outcome_in}
 use Rattle.mix_answer.specs.Shapes.{AreSets, FitsAuction, HasAnswerShape, HasShape, IsShare}
 use Rattle.mix_answer.specs.declared.outcome.Answer.{Answer}
@@ -29,7 +31,8 @@ use Rattle.mix_answer.specs.declared.outcome.Outcome.{Outcome}
 use Rattle.mix_answer.specs.declared.outcome.Outcome.TheVariants.{Cleared, Refused}
 use Rattle.mix_answer.specs.declared.refusal.Refusal.{Refusal}
 use Rattle.mix_answer.specs.declared.share.Share.{Share}
-use Rattle.mix_answer.proofs.SpelledOutcomes.{AreNamed, bidders_named, goods_named, outcome_tells, pairs_named}
+use Rattle.mix_answer.proofs.SpelledOutcomes.{AreNamed, bidders_named, goods_named, order_named, outcome_tells, pairs_named}
+use Rattle.mix_answer.proofs.SpelledRows.{version_small}
 
 -- ---- fields and rows
 
@@ -139,10 +142,22 @@ inner_lines : (a : AuctionText) (outcome : Outcome) → IsAuction a → HasShape
 inner_lines a (Refused r) is shape = All-cons IsLine (refusal_row a r) [] (refusal_line a r is shape) (All-nil IsLine)
 inner_lines a (Cleared answer) is shape = answer_lines a answer is shape
 
+head_line : (format : ℕ) → IsLine (head_row format)
+head_line format = let few = version_small format in line (codes "outcome") (signed_decimal (pos (version_of format)) ∷ []) refl (one (signed_decimal (pos (version_of format))) (number (pos (version_of format)) (omega (arith, ints)) (omega (arith, ints, few))))
+
+order_lines : (a : AuctionText) → IsAuction a → All IsLine (order_rows a)
+order_lines a is = elim (cases_Bool (has_order a.format)) [
+  | inl t ↦ (
+      let names = names_at a.bidders a.order in
+      rw t (All-cons IsLine (order_row names) [] (line (codes "order") names refl (All-weaker (λ name. is_name name ≡ true) IsField (λ name form. name_printable name form) names (order_named a is))) (All-nil IsLine)))
+  | inr f ↦ rw f (All-nil IsLine)
+]
+
 outcome_lines : (a : AuctionText) (outcome : Outcome) → IsAuction a → HasShape a outcome → list_all is_printable_row (outcome_rows a outcome) ≡ true
 outcome_lines a outcome is shape = all_pass is_printable_row (outcome_rows a outcome)
-    (All-cons IsLine head_row (inner_rows a outcome ++ end_row ∷ []) refl
-    (All-append IsLine (inner_rows a outcome) (end_row ∷ []) (inner_lines a outcome is shape) (All-cons IsLine end_row [] refl (All-nil IsLine))))
+    (All-cons IsLine (head_row a.format) (order_rows a ++ (inner_rows a outcome ++ end_row ∷ [])) (head_line a.format)
+    (All-append IsLine (order_rows a) (inner_rows a outcome ++ end_row ∷ []) (order_lines a is)
+    (All-append IsLine (inner_rows a outcome) (end_row ∷ []) (inner_lines a outcome is shape) (All-cons IsLine end_row [] refl (All-nil IsLine)))))
 
 -- ---- texts
 

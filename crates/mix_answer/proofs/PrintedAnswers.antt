@@ -7,7 +7,7 @@ use Rattle.mix_num.specs.declared.pair.Tight.{Tight}
 use Rattle.mix_text.specs.Auctions.{AuctionText}
 use Rattle.mix_text.specs.Bidders.{Named, name_at}
 use Rattle.mix_text.specs.Pages.{PageText, line_of, printed}
-use Rattle.mix_answer.specs.Outcomes.{BidderGood, amounts_row, answer_rows, bidders_goods, cleared_row, end_row, head_row, inner_rows, outcome_text, share_row, share_rows, tight_row, tight_rows, with_each}
+use Rattle.mix_answer.specs.Outcomes.{BidderGood, amounts_row, answer_rows, bidders_goods, cleared_row, end_row, head_row, inner_rows, order_rows, outcome_text, share_row, share_rows, tight_row, tight_rows, with_each}
 use Rattle.mix_answer.specs.declared.outcome.Answer.{Answer}
 use Rattle.mix_answer.specs.declared.outcome.Outcome.{Outcome}
 use Rattle.mix_answer.specs.declared.share.Share.{Share}
@@ -139,17 +139,22 @@ answer_pages ended a answer cleared prices shares returns c p s r = rw (r, s, p,
 
 -- ---- outcomes
 
--- the pages after the first row, the inner rows and the last row
-pub outcome_pages : (a : AuctionText) (outcome : Outcome) (start head inner all : PageText)
+-- the pages after the first row, that of the order, the rows of the outcome itself and the last row
+pub outcome_pages : (a : AuctionText) (outcome : Outcome) (start head order inner all : PageText)
     → start ≡ record { ended = []; fields = [] }
-    → head ≡ record { ended = start.ended ++ line_of head_row; fields = [] }
-    → inner ≡ record { ended = head.ended ++ printed (inner_rows a outcome); fields = [] }
+    → head ≡ record { ended = start.ended ++ line_of (head_row a.format); fields = [] }
+    → order ≡ record { ended = head.ended ++ printed (order_rows a); fields = [] }
+    → inner ≡ record { ended = order.ended ++ printed (inner_rows a outcome); fields = [] }
     → all ≡ record { ended = inner.ended ++ line_of end_row; fields = [] }
     → all.ended ≡ outcome_text a outcome
-outcome_pages a outcome start head inner all s h i e =
+outcome_pages a outcome start head order inner all s h o i e =
+    let first : List ℕ = line_of (head_row a.format) in
+    let stated : List (List (List ℕ)) = order_rows a in
     let rows : List (List (List ℕ)) = inner_rows a outcome in
-    rw (e, i, h, s) (
-    append_assoc (line_of head_row) (printed rows) (line_of end_row)
-    ∙ ap (λ (t : List ℕ). line_of head_row ++ (printed rows ++ t)) (sym (printed_alone end_row))
-    ∙ ap (λ (t : List ℕ). line_of head_row ++ t) (sym (printed-append rows (end_row ∷ [])))
+    rw (e, i, o, h, s) (
+    append_assoc (first ++ printed stated) (printed rows) (line_of end_row)
+    ∙ append_assoc first (printed stated) (printed rows ++ line_of end_row)
+    ∙ ap (λ (t : List ℕ). first ++ (printed stated ++ (printed rows ++ t))) (sym (printed_alone end_row))
+    ∙ ap (λ (t : List ℕ). first ++ (printed stated ++ t)) (sym (printed-append rows (end_row ∷ [])))
+    ∙ ap (λ (t : List ℕ). first ++ t) (sym (printed-append stated (rows ++ end_row ∷ [])))
     )

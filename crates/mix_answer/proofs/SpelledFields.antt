@@ -16,16 +16,17 @@ use Rattle.mix_num.proofs.Cleared.{few_sets}
 use Rattle.mix_bids.specs.Bids.{Book}
 use Rattle.mix_text.specs.Bidders.{Named, name_at, place_of}
 use Rattle.mix_text.specs.Names.{AreNames, is_among, place_among}
-use Rattle.mix_text.specs.Reading.{◌>>=◌, each_of, holds, number_in}
+use Rattle.mix_text.specs.Reading.{◌>>=◌, bidder_of, each_of, found, holds, number_in}
 use Rattle.mix_text.specs.Spelling.{is_name, spelled_name, spelled_number, between}
 use Rattle.mix_text.specs.declared.faults.Code.{Code}
 use Rattle.mix_text.specs.declared.faults.Code.TheVariants as code
 use Rattle.mix_text.proofs.Gathering.{Unlike, bytes_eq_refl, different_unlike, same_bytes}
+use Rattle.mix_text.proofs.OwnPlaces.{bidder_found, place_found, unlike_names}
 use Rattle.mix_text.proofs.PrintedNumbers.{number_printed, number_spelled}
 use Rattle.mix_text.proofs.Sound.{holds_ok, then_ok}
 use Rattle.mix_text.proofs.Spellings.{between_ok, between_range, between_value, name_read, name_spelled}
 use Rattle.mix_answer.specs.Outcomes.{choice_text}
-use Rattle.mix_answer.specs.Readings.{bidder_of, choice_of, set_of, there, wanted_name}
+use Rattle.mix_answer.specs.Readings.{choice_of, set_of, wanted_name}
 
 -- what is read is what is printed, of values of a kind, and of these the printed text is read as the value
 pub record IsExact {I X : Type 0} (read : I → Result X Code) (print : X → I) (IsKind : X → Type 0) : Type 0 where
@@ -126,71 +127,22 @@ wanted_exact name form = record {
   tells = λ u k. then_tells (spelled_name name) (λ spelled. holds (bytes_eq spelled name) code.Other) name tt (name_spelled name form) (holds_tells (bytes_eq name name) code.Other (bytes_eq_refl name));
 }
 
--- a place that is there
-there_told : (place : Option ℕ) (k : ℕ) → there place ≡ Ok k → place ≡ Some k
-there_told (Some j) k e = let same : j ≡ k = cc e in ap (λ (z : ℕ). Some z) same
-there_told None k e = cc e
-
--- a name is unlike each that it isn't among
-unlike_each : (name : List ℕ) (names : List (List ℕ)) (k : ℕ) → is_among name names ≡ false → k < length names → bytes_eq name (get_or names k []) ≡ false
-unlike_each name [] k h b = absurd (omega arith)
-unlike_each name (other ∷ names) zero h b = elim (cases_Bool (bytes_eq name other)) [
-  | inl t ↦ absurd (let q = rw t at h in true≢false q)
-  | inr f ↦ f
-]
-unlike_each name (other ∷ names) (suc k) h b = elim (cases_Bool (bytes_eq name other)) [
-  | inl t ↦ absurd (let q = rw t at h in true≢false q)
-  | inr f ↦ (let q = rw f at h in unlike_each name names k q (omega arith))
-]
-
--- the other way round
-unlike_back : (a b : List ℕ) → bytes_eq a b ≡ false → bytes_eq b a ≡ false
-unlike_back a b h = elim (cases_Bool (bytes_eq b a)) [
-  | inl t ↦ absurd (true≢false (sym (bytes_eq_refl a) ∙ ap (bytes_eq a) (sym (same_bytes b a t)) ∙ h))
-  | inr f ↦ f
-]
-
--- among things of unlike names, the first of a name that is there is the one that has it
-first_of_name : {X : Type 0} (named : X → List ℕ) (xs : List X) (d : X) (k : ℕ) → k < length xs → Unlike (map named xs) → prefix_len (λ x. not (bytes_eq (named (get_or xs k d)) (named x))) xs ≡ k
-first_of_name named [] d k h u = absurd (omega arith)
-first_of_name named (x ∷ xs) d zero h u = rw (bytes_eq_refl (named x)) refl
-first_of_name {X = X} named (x ∷ xs) d (suc k) h u =
-    let below : k < length xs = omega arith in
-    let sizes = length-map xs named in
-    let other = unlike_back (named x) (named (get_or xs k d)) (ap (bytes_eq (named x)) (sym (get_or-map named xs k d [] below)) ∙ unlike_each (named x) (map named xs) k u.0 (omega (arith, sizes, below))) in
-    let later = first_of_name named xs d k below u.1 in
-    rw (other, later) (omega arith)
-
-pub place_found : {X : Type 0} (named : X → List ℕ) (xs : List X) (d : X) (k : ℕ) → k < length xs → Unlike (map named xs) → position (λ x. bytes_eq (named (get_or xs k d)) (named x)) xs ≡ Some k
-place_found named xs d k h u =
-    let first = first_of_name named xs d k h u in
-    let inside : nat_lt k (length xs) ≡ true = grind (arith, nat_tests) in
-    rw (first, inside) refl
-
--- names no two of which are alike
-pub unlike_names : (names : List (List ℕ)) → AreNames names → Unlike names
-unlike_names names are = subst Unlike are.unlike (different_unlike names)
+-- a place that is found
+found_told : (place : Option ℕ) (k : ℕ) → found place ≡ Ok k → place ≡ Some k
+found_told (Some j) k e = let same : j ≡ k = cc e in ap (λ (z : ℕ). Some z) same
+found_told None k e = cc e
 
 -- ---- bidders
 
-bidder_name : (bidders : Named) (k : ℕ) → AreNames (map (λ bidder. bidder.0) bidders) → k < length bidders → is_name (name_at bidders k) ≡ true
-bidder_name bidders k are h =
-    let count = length-map bidders (λ (bidder : List ℕ × Book). bidder.0) in
-    let same = get_or-map (λ (bidder : List ℕ × Book). bidder.0) bidders k ([], record { goods = 0; bids = [] }) [] h in
-    ap is_name (sym same) ∙ are.form k [] (omega (arith, count, h))
-
 pub bidder_exact : (bidders : Named) → AreNames (map (λ bidder. bidder.0) bidders) → IsExact (bidder_of bidders) (name_at bidders) (λ (k : ℕ). k < length bidders)
-unfolding bidder_of
 bidder_exact bidders are = record {
   told = λ field k e. (
-      let a = then_ok (spelled_name field) (λ name. there (place_of name bidders)) k e in
-      let place = there_told (place_of a.0 bidders) k a.2 in
+      let a = then_ok (spelled_name field) (λ name. found (place_of name bidders)) k e in
+      let place = found_told (place_of a.0 bidders) k a.2 in
       let at = position-Some (λ (b : List ℕ × Book). bytes_eq a.0 b.0) bidders k ([], record { goods = 0; bids = [] }) place in
       let read = name_read field a.0 a.1 in
       (sym read.0 ∙ same_bytes a.0 (name_at bidders k) at.1, at.0));
-  tells = λ k h. (
-      let found = place_found (λ (bidder : List ℕ × Book). bidder.0) bidders ([], record { goods = 0; bids = [] }) k h (unlike_names (map (λ bidder. bidder.0) bidders) are) in
-      then_tells (spelled_name (name_at bidders k)) (λ name. there (place_of name bidders)) (name_at bidders k) k (name_spelled (name_at bidders k) (bidder_name bidders k are h)) (ap there found));
+  tells = λ k h. bidder_found bidders k are h;
 }
 
 -- ---- choices
@@ -206,12 +158,12 @@ not_null name form = elim (cases_Bool (bytes_eq name (codes "-"))) [
   | inr f ↦ f
 ]
 
-good_told : (goods : List (List ℕ)) (field : List ℕ) (choice : ℕ) → (spelled_name field >>= λ name. there (place_among name goods) >>= λ j. Ok (suc j)) ≡ Ok choice → (field ≡ choice_text goods choice) × (choice ≤ length goods)
+good_told : (goods : List (List ℕ)) (field : List ℕ) (choice : ℕ) → (spelled_name field >>= λ name. found (place_among name goods) >>= λ j. Ok (suc j)) ≡ Ok choice → (field ≡ choice_text goods choice) × (choice ≤ length goods)
 good_told goods field choice e =
-    let a = then_ok (spelled_name field) (λ name. there (place_among name goods) >>= λ j. Ok (suc j)) choice e in
-    let b = then_ok (there (place_among a.0 goods)) (λ j. Ok (suc j)) choice a.2 in
+    let a = then_ok (spelled_name field) (λ name. found (place_among name goods) >>= λ j. Ok (suc j)) choice e in
+    let b = then_ok (found (place_among a.0 goods)) (λ j. Ok (suc j)) choice a.2 in
     let next : suc b.0 ≡ choice = let q = b.2 in cc q in
-    let at = position-Some (bytes_eq a.0) goods b.0 [] (there_told (place_among a.0 goods) b.0 b.1) in
+    let at = position-Some (bytes_eq a.0) goods b.0 [] (found_told (place_among a.0 goods) b.0 b.1) in
     let read = name_read field a.0 a.1 in
     let below = at.0 in
     let within : suc b.0 ≤ length goods = omega (arith, below) in
@@ -221,10 +173,10 @@ good_tells : (goods : List (List ℕ)) (j : ℕ) → AreNames goods → j < leng
 unfolding choice_of
 good_tells goods j are h =
     let form = are.form j [] h in
-    let found = place_found (λ (name : List ℕ). name) goods [] j h (subst Unlike (sym (same_list goods)) (unlike_names goods are)) in
+    let place = place_found (λ (name : List ℕ). name) goods [] j h (subst Unlike (sym (same_list goods)) (unlike_names goods are)) in
     rw (not_null (get_or goods j []) form) (
-    then_tells (spelled_name (get_or goods j [])) (λ name. there (place_among name goods) >>= λ i. Ok (suc i)) (get_or goods j []) (suc j) (name_spelled (get_or goods j []) form)
-    (then_tells (there (place_among (get_or goods j []) goods)) (λ i. Ok (suc i)) j (suc j) (ap there found) refl)
+    then_tells (spelled_name (get_or goods j [])) (λ name. found (place_among name goods) >>= λ i. Ok (suc i)) (get_or goods j []) (suc j) (name_spelled (get_or goods j []) form)
+    (then_tells (found (place_among (get_or goods j []) goods)) (λ i. Ok (suc i)) j (suc j) (ap found place) refl)
     )
 
 pub choice_exact : (goods : List (List ℕ)) → AreNames goods → IsExact (choice_of goods) (choice_text goods) (λ (choice : ℕ). choice ≤ length goods)

@@ -3,19 +3,21 @@ use Rattle.std.proofs.Common.{◌≡◌, ◌∙◌, sym, ap, ap₂, refl, subst,
 use Rattle.std.specs.Prelude.{codes}
 use Rattle.std.specs.List.{zip}
 use Rattle.std.proofs.lemmas.Bool.{cases_Bool}
-use Rattle.std.proofs.lemmas.List.{length-append, length-map}
-use Rattle.std.proofs.lemmas.List.Elements.{All-append, All-cons, All-head, All-map, All-nil, All-tail, All-weaker}
+use Rattle.std.proofs.lemmas.List.{get_or-map, length-append, length-map}
+use Rattle.std.proofs.lemmas.List.Elements.{All-append, All-cons, All-get_or, All-head, All-map, All-nil, All-tail, All-weaker}
 use Rattle.mix_bids.specs.Bids.{Book}
 use Rattle.mix_num.specs.Sellers.{AreAmounts}
 use Rattle.mix_text.specs.Auctions.{AuctionText, IsAuction}
-use Rattle.mix_text.specs.Bidders.{Named}
-use Rattle.mix_text.specs.Reading.{◌>>=◌, begins}
+use Rattle.mix_num.specs.Orders.{place_at}
+use Rattle.mix_text.specs.Bidders.{Named, name_at, names_at}
+use Rattle.mix_text.specs.Formats.{has_order}
+use Rattle.mix_text.specs.Reading.{◌>>=◌, begins, end_of}
 use Rattle.mix_text.specs.Rows.{RowText}
 use Rattle.mix_text.specs.Spelling.{is_name}
 use Rattle.mix_text.specs.declared.faults.Code.{Code}
 use Rattle.mix_text.proofs.Sound.{then_ok}
-use Rattle.mix_answer.specs.Outcomes.{BidderGood, amounts_row, answer_rows, bidders_goods, cleared_row, end_row, head_row, inner_rows, outcome_rows, refusal_row, share_row, share_rows, tight_row, tight_rows, with_each}
-use Rattle.mix_answer.specs.Readings.{amounts_of, answer_in, cleared_of, first_row, first_rows, head_of, in_row, inner_in, last_of, lines_of, none_left, outcome_in, refusal_row_of, share_of, tight_of}
+use Rattle.mix_answer.specs.Outcomes.{BidderGood, amounts_row, answer_rows, bidders_goods, cleared_row, end_row, head_row, inner_rows, order_row, order_rows, outcome_rows, refusal_row, share_row, share_rows, tight_row, tight_rows, with_each}
+use Rattle.mix_answer.specs.Readings.{amounts_of, answer_in, cleared_of, first_row, first_rows, head_of, in_row, inner_in, lines_of, none_left, order_in, order_of, outcome_in, refusal_row_of, share_of, tight_of}
 use Rattle.mix_answer.specs.Shapes.{AreSets, HasAnswerShape, HasShape, IsShare}
 use Rattle.mix_answer.specs.declared.faults.OutcomeError.{OutcomeError}
 use Rattle.mix_answer.specs.declared.outcome.Answer.{Answer}
@@ -23,7 +25,7 @@ use Rattle.mix_answer.specs.declared.outcome.Outcome.{Outcome}
 use Rattle.mix_answer.specs.declared.outcome.Outcome.TheVariants.{Cleared, Refused}
 use Rattle.mix_answer.proofs.FirstRows.{shares_read}
 use Rattle.mix_answer.proofs.SpelledFields.{IsExact, then_tells}
-use Rattle.mix_answer.proofs.SpelledRows.{amounts_exact, cleared_told, head_exact, last_exact, refusal_exact, share_exact, tight_exact}
+use Rattle.mix_answer.proofs.SpelledRows.{amounts_exact, cleared_told, head_exact, last_exact, order_exact, refusal_exact, share_exact, tight_exact}
 
 -- ---- one row
 
@@ -273,6 +275,50 @@ inner_tells a is next (row ∷ rest) (Cleared answer) lines shape e =
     let told = answer_read.read in
     record { left = answer_read.left; read = rw (word, read, told) refl; after = answer_read.after }
 
+-- ---- the tie order
+
+pub order_named : (a : AuctionText) → IsAuction a → All (λ name. is_name name ≡ true) (names_at a.bidders a.order)
+order_named a is = each_name (names_at a.bidders a.order) (λ k h.
+    let order = is.order in
+    let size = order.size in
+    let below : k < length a.order = omega (arith, h, length-map a.order (name_at a.bidders)) in
+    ap is_name (get_or-map (name_at a.bidders) a.order k 0 [] below)
+    ∙ All-get_or (λ (bidder : List ℕ × Book). is_name bidder.0 ≡ true) a.bidders (place_at a.order k) ([], record { goods = 0; bids = [] }) (order.within k (omega (arith, below, size))) (bidders_named a is))
+
+order_told : (a : AuctionText) → IsAuction a → (next : ℕ) (rows left : List RowText) → order_in a next rows ≡ Ok left → lines_of rows ≡ order_rows a ++ lines_of left
+unfolding order_in
+order_told a is next rows left e = elim (cases_Bool (has_order a.format)) [
+  | inl t ↦ (
+      let names = names_at a.bidders a.order in
+      let q = rw t at e in
+      let o = then_ok (first_row next (order_of names) rows) (λ order. Ok order.1) left q in
+      let same : o.0.1 ≡ left = let z = o.2 in cc z in
+      let row = first_told (order_of names) (λ (u : Unit {0}). order_row names) (λ (u : Unit {0}). Unit {0}) (order_exact names (order_named a is)) next rows o.0.1 o.0.0 o.1 in
+      rw t (row.0 ∙ ap (λ (z : List RowText). order_row names ∷ lines_of z) same))
+  | inr f ↦ (
+      let q = rw f at e in
+      let same : rows ≡ left = cc q in
+      rw f (ap lines_of same))
+]
+
+-- the rows after that of the order
+record Leaves (told : Result (List RowText) OutcomeError) (lines : List (List (List ℕ))) : Type 0 where
+  left : List RowText
+  read : told ≡ Ok left
+  after : lines_of left ≡ lines
+
+order_tells : (a : AuctionText) → IsAuction a → (next : ℕ) (rows : List RowText) (lines : List (List (List ℕ))) → lines_of rows ≡ order_rows a ++ lines → Leaves (order_in a next rows) lines
+unfolding order_in
+order_tells a is next rows lines e = elim (cases_Bool (has_order a.format)) [
+  | inl t ↦ (
+      let names = names_at a.bidders a.order in
+      let q = rw t at e in
+      let row = first_tells (order_of names) (λ (u : Unit {0}). order_row names) (λ (u : Unit {0}). Unit {0}) (order_exact names (order_named a is)) next rows lines tt tt q in
+      let told = row.read in
+      record { left = row.left; read = rw (t, told) refl; after = row.after })
+  | inr f ↦ (let q = rw f at e in record { left = rows; read = rw f refl; after = q })
+]
+
 -- ---- outcomes
 
 none_told : (rows : List RowText) (u : Unit {0}) → none_left rows ≡ Ok u → rows ≡ []
@@ -283,17 +329,20 @@ none_told (row ∷ rest) u e = cc e
 pub outcome_told : (a : AuctionText) → IsAuction a → (next : ℕ) (rows : List RowText) (outcome : Outcome) → outcome_in a next rows ≡ Ok outcome → (lines_of rows ≡ outcome_rows a outcome) × HasShape a outcome
 unfolding outcome_in
 outcome_told a is next rows outcome e =
-    let h = then_ok (first_row next head_of rows) _ outcome e in
-    let i = then_ok (inner_in a next h.0.1) _ outcome h.2 in
-    let l = then_ok (first_row next last_of i.0.1) _ outcome i.2 in
+    let h = then_ok (first_row next (head_of a.format) rows) _ outcome e in
+    let o = then_ok (order_in a next h.0.1) _ outcome h.2 in
+    let i = then_ok (inner_in a next o.0) _ outcome o.2 in
+    let l = then_ok (first_row next end_of i.0.1) _ outcome i.2 in
     let n = then_ok (none_left l.0.1) _ outcome l.2 in
     let same : i.0.0 ≡ outcome = let q = n.2 in cc q in
-    let head = first_told head_of (λ (u : Unit {0}). head_row) (λ (u : Unit {0}). Unit {0}) head_exact next rows h.0.1 h.0.0 h.1 in
-    let inner = inner_told a is next h.0.1 i.0.1 i.0.0 i.1 in
-    let last = first_told last_of (λ (u : Unit {0}). end_row) (λ (u : Unit {0}). Unit {0}) last_exact next i.0.1 l.0.1 l.0.0 l.1 in
+    let head = first_told (head_of a.format) (λ (u : Unit {0}). head_row a.format) (λ (u : Unit {0}). Unit {0}) (head_exact a.format) next rows h.0.1 h.0.0 h.1 in
+    let order = order_told a is next h.0.1 o.0 o.1 in
+    let inner = inner_told a is next o.0 i.0.1 i.0.0 i.1 in
+    let last = first_told end_of (λ (u : Unit {0}). end_row) (λ (u : Unit {0}). Unit {0}) last_exact next i.0.1 l.0.1 l.0.0 l.1 in
     let lines : lines_of rows ≡ outcome_rows a i.0.0 =
-    head.0 ∙ ap (λ (rest : List (List (List ℕ))). head_row ∷ rest)
-    (inner.0 ∙ ap (λ (rest : List (List (List ℕ))). inner_rows a i.0.0 ++ rest) (last.0 ∙ ap (λ (z : List RowText). end_row ∷ lines_of z) (none_told l.0.1 n.0 n.1))) in
+    head.0 ∙ ap (λ (rest : List (List (List ℕ))). head_row a.format ∷ rest)
+    (order ∙ ap (λ (rest : List (List (List ℕ))). order_rows a ++ rest)
+    (inner.0 ∙ ap (λ (rest : List (List (List ℕ))). inner_rows a i.0.0 ++ rest) (last.0 ∙ ap (λ (z : List RowText). end_row ∷ lines_of z) (none_told l.0.1 n.0 n.1)))) in
     subst (λ (z : Outcome). (lines_of rows ≡ outcome_rows a z) × HasShape a z) same (lines, inner.1)
 
 no_lines : (rows : List RowText) → lines_of rows ≡ [] → none_left rows ≡ Ok tt
@@ -304,10 +353,12 @@ no_lines (row ∷ rest) e = cc e
 pub outcome_tells : (a : AuctionText) → IsAuction a → (next : ℕ) (rows : List RowText) (outcome : Outcome) → HasShape a outcome → lines_of rows ≡ outcome_rows a outcome → outcome_in a next rows ≡ Ok outcome
 unfolding outcome_in
 outcome_tells a is next rows outcome shape e =
-    let head = first_tells head_of (λ (u : Unit {0}). head_row) (λ (u : Unit {0}). Unit {0}) head_exact next rows (inner_rows a outcome ++ end_row ∷ []) tt tt e in
-    let inner = inner_tells a is next head.left outcome (end_row ∷ []) shape head.after in
-    let last = first_tells last_of (λ (u : Unit {0}). end_row) (λ (u : Unit {0}). Unit {0}) last_exact next inner.left [] tt tt inner.after in
-    then_tells (first_row next head_of rows) _ (tt, head.left) outcome head.read
-    (then_tells (inner_in a next head.left) _ (outcome, inner.left) outcome inner.read
-    (then_tells (first_row next last_of inner.left) _ (tt, last.left) outcome last.read
-    (then_tells (none_left last.left) _ tt outcome (no_lines last.left last.after) refl)))
+    let head = first_tells (head_of a.format) (λ (u : Unit {0}). head_row a.format) (λ (u : Unit {0}). Unit {0}) (head_exact a.format) next rows (order_rows a ++ (inner_rows a outcome ++ end_row ∷ [])) tt tt e in
+    let order = order_tells a is next head.left (inner_rows a outcome ++ end_row ∷ []) head.after in
+    let inner = inner_tells a is next order.left outcome (end_row ∷ []) shape order.after in
+    let last = first_tells end_of (λ (u : Unit {0}). end_row) (λ (u : Unit {0}). Unit {0}) last_exact next inner.left [] tt tt inner.after in
+    then_tells (first_row next (head_of a.format) rows) _ (tt, head.left) outcome head.read
+    (then_tells (order_in a next head.left) _ order.left outcome order.read
+    (then_tells (inner_in a next order.left) _ (outcome, inner.left) outcome inner.read
+    (then_tells (first_row next end_of inner.left) _ (tt, last.left) outcome last.read
+    (then_tells (none_left last.left) _ tt outcome (no_lines last.left last.after) refl))))

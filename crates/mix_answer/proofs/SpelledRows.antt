@@ -1,25 +1,26 @@
 -- Rows are read exactly where they are printed.
-use Rattle.std.proofs.Common.{◌≡◌, ◌==◌, ◌∙◌, sym, ap, ap₂, refl, subst, ◌<◌, ◌≤◌, ◌+◌, ◌-◌, ◌≤ℤ◌, ℕ, ℤ, pos, neg_ℤ, true, List, [], ◌∷◌, ◌++◌, length, map, drop, take, get_or, nat_lt, arith, Ok, All}
+use Rattle.std.proofs.Common.{◌≡◌, ◌==◌, ◌∙◌, sym, ap, ap₂, refl, subst, ◌<◌, ◌≤◌, ◌+◌, ◌-◌, ◌≤ℤ◌, ℕ, ℤ, pos, neg_ℤ, true, List, [], ◌∷◌, ◌++◌, length, map, drop, take, get_or, nat_lt, arith, inl, inr, Ok, All}
 use Rattle.std.specs.Prelude.{codes}
 use Rattle.std.specs.Fmt.{signed_decimal}
 use Rattle.std.specs.Str.{bytes_eq}
+use Rattle.std.proofs.lemmas.Bool.{cases_Bool}
 use Rattle.std.proofs.lemmas.Bool.Decides.{nat_tests}
 use Rattle.std.proofs.lemmas.Int.{ints}
-use Rattle.std.proofs.lemmas.Fmt.{decimal_digit}
-use Rattle.std.proofs.lemmas.List.Elements.{All-cons, All-head, All-nil}
+use Rattle.std.proofs.lemmas.List.Elements.{All-cons, All-head, All-nil, All-tail}
 use Rattle.std.proofs.lemmas.List.{drop_all, drop_more, get_or-append_right, get_or-drop, length-append, length-drop, length-map, take_all, take_at, take_more}
 use Rattle.mix_num.specs.Sellers.{AreAmounts}
 use Rattle.mix_num.specs.declared.pair.Tight.{Tight}
 use Rattle.mix_text.specs.Auctions.{AuctionText}
 use Rattle.mix_text.specs.Bidders.{name_at}
 use Rattle.mix_text.specs.Names.{AreNames}
-use Rattle.mix_text.specs.Reading.{begins, each_of, end_of, field_at, holds, number_in, numbers_of}
+use Rattle.mix_text.specs.Formats.{has_order}
+use Rattle.mix_text.specs.Reading.{◌>>=◌, begins, bidder_of, each_of, end_of, field_at, holds, number_in, numbers_of}
 use Rattle.mix_text.specs.Spelling.{is_name}
 use Rattle.mix_text.specs.declared.faults.Code.TheVariants as code
 use Rattle.mix_text.proofs.Gathering.{bytes_eq_refl, same_bytes}
 use Rattle.mix_text.proofs.Sound.{equal_numbers, holds_ok, then_ok}
-use Rattle.mix_answer.specs.Outcomes.{BidderGood, amounts_row, choice_text, cleared_row, end_row, head_row, refusal_row, share_row, tight_row}
-use Rattle.mix_answer.specs.Readings.{amounts_of, bidder_of, choice_of, cleared_of, head_of, last_of, numbers_at, refusal_of, refusal_row_of, set_of, share_of, tight_of, wanted_name}
+use Rattle.mix_answer.specs.Outcomes.{BidderGood, amounts_row, choice_text, cleared_row, end_row, head_row, order_row, refusal_row, share_row, tight_row, version_of}
+use Rattle.mix_answer.specs.Readings.{amounts_of, choice_of, cleared_of, head_of, numbers_at, order_of, refusal_of, refusal_row_of, set_of, share_of, tight_of, wanted_name, wanted_names}
 use Rattle.mix_answer.specs.Shapes.{AreSets, FitsAuction, IsShare}
 use Rattle.mix_answer.specs.declared.refusal.Refusal.{Refusal}
 use Rattle.mix_answer.specs.declared.share.Share.{Share}
@@ -131,35 +132,72 @@ amounts_exact word n = let exact = word_row word n (pos 0) (pos 1000000) low_bou
 
 -- ---- the first row and the last ones
 
--- a list of one number that is 1
-one_number : (xs : List ℤ) → (length xs ≡ 1) × All (LiesFrom (pos 1) (pos 1)) xs → xs ≡ pos 1 ∷ []
-one_number [] h = absurd (let size = h.0 in omega (arith, size))
-one_number (x ∷ []) h =
-    let range = All-head (LiesFrom (pos 1) (pos 1)) x [] h.1 in
+-- a list of one number that is v
+one_number : (v : ℤ) (xs : List ℤ) → (length xs ≡ 1) × All (LiesFrom v v) xs → xs ≡ v ∷ []
+one_number v [] h = absurd (let size = h.0 in omega (arith, size))
+one_number v (x ∷ []) h =
+    let range = All-head (LiesFrom v v) x [] h.1 in
     let low = range.0 in
     let high = range.1 in
-    let one : x ≡ pos 1 = omega (arith, ints, low, high) in
+    let one : x ≡ v = omega (arith, ints, low, high) in
     ap (λ (z : ℤ). z ∷ []) one
-one_number (x ∷ y ∷ xs) h = absurd (let size = h.0 in omega (arith, size))
+one_number v (x ∷ y ∷ xs) h = absurd (let size = h.0 in omega (arith, size))
 
--- the version as it is printed
-version_text : signed_decimal (pos 1) ≡ codes "1"
-version_text = decimal_digit 1 (omega arith)
+pub version_small : (format : ℕ) → version_of format ≤ 2
+version_small format = elim (cases_Bool (has_order format)) [
+  | inl t ↦ rw t (omega arith)
+  | inr f ↦ rw f (omega arith)
+]
 
-pub head_exact : IsExact head_of (λ (u : Unit {0}). head_row) (λ (u : Unit {0}). Unit {0})
-head_exact =
-    let exact = word_row (codes "outcome") 1 (pos 1) (pos 1) (omega (arith, ints)) (high_bound 1 (omega arith)) in
-    let lies : LiesFrom (pos 1) (pos 1) (pos 1) = (omega (arith, ints), omega (arith, ints)) in
-    let printed : amounts_row (codes "outcome") (pos 1 ∷ []) ≡ head_row = ap (λ (field : List ℕ). codes "outcome" ∷ field ∷ []) version_text in
-    let tells : numbers_of (codes "outcome") 1 (pos 1) (pos 1) head_row ≡ Ok (pos 1 ∷ []) =
-    ap (numbers_of (codes "outcome") 1 (pos 1) (pos 1)) (sym printed) ∙ exact.tells (pos 1 ∷ []) (refl, All-cons (LiesFrom (pos 1) (pos 1)) (pos 1) [] lies (All-nil (LiesFrom (pos 1) (pos 1)))) in
+-- a row of a word and one number, whatever that is
+number_row : (word : List ℕ) (v : ℕ) → v ≤ 2 → IsExact (λ fields. numbers_of word 1 (pos v) (pos v) fields >>= λ _. Ok tt) (λ (u : Unit {0}). amounts_row word (pos v ∷ [])) (λ (u : Unit {0}). Unit {0})
+number_row word v few =
+    let exact = word_row word 1 (pos v) (pos v) (omega (arith, ints)) (high_bound v (omega (arith, few))) in
+    let lies : LiesFrom (pos v) (pos v) (pos v) = (omega (arith, ints), omega (arith, ints)) in
+    let tells = exact.tells (pos v ∷ []) (refl, All-cons (LiesFrom (pos v) (pos v)) (pos v) [] lies (All-nil (LiesFrom (pos v) (pos v)))) in
     record {
       told = λ fields u e. (
-          let a = then_ok (numbers_of (codes "outcome") 1 (pos 1) (pos 1) fields) (λ _. Ok tt) u e in
+          let a = then_ok (numbers_of word 1 (pos v) (pos v) fields) (λ _. Ok tt) u e in
           let row = exact.told fields a.0 a.1 in
-          (row.0 ∙ ap (amounts_row (codes "outcome")) (one_number a.0 row.1) ∙ printed, tt));
-      tells = λ u k. then_tells (numbers_of (codes "outcome") 1 (pos 1) (pos 1) head_row) (λ _. Ok tt) (pos 1 ∷ []) tt tells refl;
+          (row.0 ∙ ap (amounts_row word) (one_number (pos v) a.0 row.1), tt));
+      tells = λ u k. then_tells (numbers_of word 1 (pos v) (pos v) (amounts_row word (pos v ∷ []))) (λ _. Ok tt) (pos v ∷ []) tt tells refl;
     }
+
+pub head_exact : (format : ℕ) → IsExact (head_of format) (λ (u : Unit {0}). head_row format) (λ (u : Unit {0}). Unit {0})
+head_exact format = let exact = number_row (codes "outcome") (version_of format) (version_small format) in record { told = exact.told; tells = exact.tells }
+
+-- the names of an order
+names_told : (names fields : List (List ℕ)) (u : Unit {0}) → All (λ name. is_name name ≡ true) names → length fields ≡ length names → wanted_names names fields ≡ Ok u → fields ≡ names
+names_told [] [] u named size e = refl
+names_told [] (field ∷ fields) u named size e = absurd (omega (arith, size))
+names_told (name ∷ names) [] u named size e = absurd (omega (arith, size))
+names_told (name ∷ names) (field ∷ fields) u named size e =
+    let a = then_ok (wanted_name name field) (λ _. wanted_names names fields) u e in
+    let here = (wanted_exact name (All-head (λ n. is_name n ≡ true) name names named)).told field a.0 a.1 in
+    ap₂ (λ (x : List ℕ) (rest : List (List ℕ)). x ∷ rest) here.0 (names_told names fields u (All-tail (λ n. is_name n ≡ true) name names named) (omega (arith, size)) a.2)
+
+names_tell : (names : List (List ℕ)) → All (λ name. is_name name ≡ true) names → wanted_names names names ≡ Ok tt
+names_tell [] named = refl
+names_tell (name ∷ names) named =
+    then_tells (wanted_name name name) (λ _. wanted_names names names) tt tt ((wanted_exact name (All-head (λ n. is_name n ≡ true) name names named)).tells tt tt)
+    (names_tell names (All-tail (λ n. is_name n ≡ true) name names named))
+
+pub order_exact : (names : List (List ℕ)) → All (λ name. is_name name ≡ true) names → IsExact (order_of names) (λ (u : Unit {0}). order_row names) (λ (u : Unit {0}). Unit {0})
+unfolding order_of
+order_exact names named = record {
+  told = λ fields u e. (
+      let a = then_ok (holds (begins fields (codes "order")) code.Place) _ u e in
+      let b = then_ok (holds (length fields == length names + 1) code.Fields) _ u a.2 in
+      let first = same_bytes (field_at fields 0) (codes "order") (holds_ok (begins fields (codes "order")) code.Place a.0 a.1) in
+      let size = equal_numbers (length fields) (length names + 1) (holds_ok (length fields == length names + 1) code.Fields b.0 b.1) in
+      let some : 0 < length fields = omega (arith, size) in
+      let rest = names_told names (drop 1 fields) u named (omega (arith, size, length-drop 1 fields)) b.2 in
+      (split_one fields some ∙ ap₂ (λ (x : List ℕ) (rest : List (List ℕ)). x ∷ rest) first rest, tt));
+  tells = λ u k. (
+      let size : length (order_row names) ≡ length names + 1 = omega arith in
+      then_tells (holds (length (order_row names) == length names + 1) code.Fields) (λ _. wanted_names names names) tt tt
+      (holds_tells (length (order_row names) == length names + 1) code.Fields (same_count (length (order_row names)) (length names + 1) size)) (names_tell names named));
+}
 
 -- a row of one field
 one_field : (fields : List (List ℕ)) (word : List ℕ) → begins fields word ≡ true → (length fields == 1) ≡ true → fields ≡ word ∷ []
@@ -168,8 +206,8 @@ one_field fields word b l =
     let some : 0 < length fields = omega (arith, size) in
     split_one fields some ∙ ap₂ (λ (x : List ℕ) (rest : List (List ℕ)). x ∷ rest) (same_bytes (field_at fields 0) word b) (drop_all 1 fields (omega (arith, size)))
 
-pub last_exact : IsExact last_of (λ (u : Unit {0}). end_row) (λ (u : Unit {0}). Unit {0})
-unfolding last_of end_of
+pub last_exact : IsExact end_of (λ (u : Unit {0}). end_row) (λ (u : Unit {0}). Unit {0})
+unfolding end_of
 last_exact = record {
   told = λ fields u e. (
       let a = then_ok (holds (begins fields (codes "end")) code.Place) _ u e in

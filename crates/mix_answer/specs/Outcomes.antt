@@ -1,10 +1,11 @@
 -- The text of an outcome, row by row.
-use Rattle.std.specs.Prelude.{ℕ, ℤ, List, [], ◌∷◌, ◌++◌, map, pos, codes, slice_index_or}
+use Rattle.std.specs.Prelude.{ℕ, ℤ, List, [], ◌∷◌, ◌++◌, map, pos, codes, slice_index_or, if◌then◌else◌}
 use Rattle.std.specs.Fmt.{signed_decimal}
 use Rattle.std.specs.List.{flat_map, zip}
 use Rattle.mix_num.specs.declared.pair.Tight.{Tight}
 use Rattle.mix_text.specs.Auctions.{AuctionText}
-use Rattle.mix_text.specs.Bidders.{Named, name_at}
+use Rattle.mix_text.specs.Bidders.{Named, name_at, names_at}
+use Rattle.mix_text.specs.Formats.{has_order}
 use Rattle.mix_text.specs.Pages.{printed}
 use Rattle.mix_answer.specs.declared.outcome.Answer.{Answer}
 use Rattle.mix_answer.specs.declared.outcome.Outcome.{Outcome}
@@ -16,9 +17,21 @@ use Rattle.mix_answer.specs.declared.share.Share.{Share}
 abbrev pub choice_text : List (List ℕ) → ℕ → List ℕ
 choice_text goods choice = slice_index_or (codes "-" ∷ goods) choice []
 
+-- the version of an outcome's text: 1 in format 1, and 2 where the tie order is stated
+abbrev pub version_of : ℕ → ℕ
+version_of format = if has_order format then 2 else 1
+
 -- the first row
-abbrev pub head_row : List (List ℕ)
-head_row = codes "outcome" ∷ codes "1" ∷ []
+abbrev pub head_row : ℕ → List (List ℕ)
+head_row format = codes "outcome" ∷ signed_decimal (pos (version_of format)) ∷ []
+
+-- the row of the tie order: the names of the bidders in it
+abbrev pub order_row : List (List ℕ) → List (List ℕ)
+order_row names = codes "order" ∷ names
+
+-- this row, where the format states the order
+abbrev pub order_rows : AuctionText → List (List (List ℕ))
+order_rows a = if has_order a.format then order_row (names_at a.bidders a.order) ∷ [] else []
 
 -- the row of a refusal: the bidder's name, the two choices, the prices, and the facet weight there
 abbrev pub refusal_row : AuctionText → Refusal → List (List ℕ)
@@ -72,14 +85,14 @@ answer_rows a answer =
 abbrev pub end_row : List (List ℕ)
 end_row = codes "end" ∷ []
 
--- the rows between the first and the last
+-- the rows of the outcome itself
 abbrev pub inner_rows : AuctionText → Outcome → List (List (List ℕ))
 inner_rows a (Refused r) = refusal_row a r ∷ []
 inner_rows a (Cleared answer) = answer_rows a answer
 
 -- all rows
 abbrev pub outcome_rows : AuctionText → Outcome → List (List (List ℕ))
-outcome_rows a outcome = head_row ∷ (inner_rows a outcome ++ end_row ∷ [])
+outcome_rows a outcome = head_row a.format ∷ (order_rows a ++ (inner_rows a outcome ++ end_row ∷ []))
 
 -- the text
 abbrev pub outcome_text : AuctionText → Outcome → List ℕ

@@ -3,14 +3,15 @@ use Rattle.std.specs.Prelude.{◌≡◌, ◌==◌, ◌+◌, ◌-◌, ◌^◌, �
 use Rattle.std.specs.Str.{bytes_eq}
 use Rattle.mix_num.specs.declared.pair.Tight.{Tight}
 use Rattle.mix_text.specs.Auctions.{AuctionText}
-use Rattle.mix_text.specs.Bidders.{Named, place_of}
+use Rattle.mix_text.specs.Bidders.{names_at}
+use Rattle.mix_text.specs.Formats.{has_order}
 use Rattle.mix_text.specs.Names.{place_among}
-use Rattle.mix_text.specs.Reading.{◌>>=◌, begins, each_of, end_of, field_at, holds, number_in, numbers_of}
+use Rattle.mix_text.specs.Reading.{◌>>=◌, begins, bidder_of, each_of, end_of, field_at, found, holds, number_in, numbers_of}
 use Rattle.mix_text.specs.Rows.{RestText, RowText}
 use Rattle.mix_text.specs.Spelling.{spelled_name}
 use Rattle.mix_text.specs.declared.faults.Code.{Code}
 use Rattle.mix_text.specs.declared.faults.Code.TheVariants as code
-use Rattle.mix_answer.specs.Outcomes.{BidderGood, bidders_goods}
+use Rattle.mix_answer.specs.Outcomes.{BidderGood, bidders_goods, version_of}
 use Rattle.mix_answer.specs.declared.faults.OutcomeError.{OutcomeError}
 use Rattle.mix_answer.specs.declared.faults.OutcomeError.TheVariants as error
 use Rattle.mix_answer.specs.declared.outcome.Answer.{Answer}
@@ -21,26 +22,27 @@ use Rattle.mix_answer.specs.declared.share.Share.{Share}
 
 -- ---- one row by itself: what its fields say, or the code of the first of its tests that fails
 
--- the first row: `outcome`, and the version, a number that is 1
-abbrev pub head_of : List (List ℕ) → Result (Unit {0}) Code
-head_of fields = numbers_of (codes "outcome") 1 (pos 1) (pos 1) fields >>= λ _. Ok tt
+-- the first row: `outcome`, and the version, a number that is the one of the format
+abbrev pub head_of : ℕ → List (List ℕ) → Result (Unit {0}) Code
+head_of format fields = numbers_of (codes "outcome") 1 (pos (version_of format)) (pos (version_of format)) fields >>= λ _. Ok tt
 
 -- a name that is the wanted one
 unfoldable pub wanted_name : List ℕ → List ℕ → Result (Unit {0}) Code
 wanted_name wanted field = spelled_name field >>= λ name. holds (bytes_eq name wanted) code.Other
 
--- a place that is there
-abbrev pub there : Option ℕ → Result ℕ Code
-there (Some k) = Ok k
-there None = Err code.Other
+-- names that are the wanted ones, from left to right
+abbrev pub wanted_names : List (List ℕ) → List (List ℕ) → Result (Unit {0}) Code
+wanted_names [] fields = Ok tt
+wanted_names (name ∷ names) fields = wanted_name name (field_at fields 0) >>= λ _. wanted_names names (drop 1 fields)
 
--- the place of a bidder, told by its name
-unfoldable pub bidder_of : Named → List ℕ → Result ℕ Code
-bidder_of bidders field = spelled_name field >>= λ name. there (place_of name bidders)
+-- the row of the tie order, whose names are known
+unfoldable pub order_of : List (List ℕ) → List (List ℕ) → Result (Unit {0}) Code
+order_of names fields =
+    holds (begins fields (codes "order")) code.Place >>= λ _. holds (length fields == length names + 1) code.Fields >>= λ _. wanted_names names (drop 1 fields)
 
 -- a choice: `-` for the null choice, else the name of a good, the goods being numbered from 1
 unfoldable pub choice_of : List (List ℕ) → List ℕ → Result ℕ Code
-choice_of goods field = if bytes_eq field (codes "-") then Ok 0 else (spelled_name field >>= λ name. there (place_among name goods) >>= λ j. Ok (suc j))
+choice_of goods field = if bytes_eq field (codes "-") then Ok 0 else (spelled_name field >>= λ name. found (place_among name goods) >>= λ j. Ok (suc j))
 
 -- a set of n goods and the null choice, told by its number
 unfoldable pub set_of : ℕ → List ℕ → Result ℕ Code
@@ -95,10 +97,6 @@ tight_of n names fields =
     set_of n (field_at fields 4) >>= λ lower.
     Ok (record { upper = upper; lower = lower })
 
--- the last row
-unfoldable pub last_of : List (List ℕ) → Result (Unit {0}) Code
-last_of fields = holds (begins fields (codes "end")) code.Place >>= λ _. end_of fields
-
 -- ---- the rows in order
 
 -- a code becomes the fault of the row with this number
@@ -134,6 +132,11 @@ inner_in a next (row ∷ rest) =
     then (in_row row.number (cleared_of row.fields) >>= λ _. answer_in a next rest >>= λ answer. Ok (Cleared answer.0, answer.1))
     else (in_row row.number (refusal_row_of a row.fields) >>= λ refusal. Ok (Refused refusal, rest))
 
+-- the rows after that of the tie order, where the format states it
+unfoldable pub order_in : AuctionText → ℕ → List RowText → Result (List RowText) OutcomeError
+order_in a next rows =
+    if has_order a.format then (first_row next (order_of (names_at a.bidders a.order)) rows >>= λ order. Ok order.1) else Ok rows
+
 -- no row is left, or the first that is left is a fault
 abbrev pub none_left : List RowText → Result (Unit {0}) OutcomeError
 none_left [] = Ok tt
@@ -142,9 +145,10 @@ none_left (row ∷ rest) = in_row row.number (Err code.After)
 -- the outcome of an auction that these rows tell, or the first fault among them
 unfoldable pub outcome_in : AuctionText → ℕ → List RowText → Result Outcome OutcomeError
 outcome_in a next rows =
-    first_row next head_of rows >>= λ head.
-    inner_in a next head.1 >>= λ inner.
-    first_row next last_of inner.1 >>= λ last.
+    first_row next (head_of a.format) rows >>= λ head.
+    order_in a next head.1 >>= λ left.
+    inner_in a next left >>= λ inner.
+    first_row next end_of inner.1 >>= λ last.
     none_left last.1 >>= λ _.
     Ok inner.0
 

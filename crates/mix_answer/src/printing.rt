@@ -6,12 +6,12 @@ ghost use Rattle.mix_answer.specs.Shapes.{HasShape};
 ghost use Rattle.mix_answer.specs.Outcomes.{inner_rows, outcome_text};
 
 use crate::outcome::Outcome;
-use crate::rows::{add_answer, add_end, add_head, add_refusal};
+use crate::rows::{add_answer, add_end, add_head, add_order, add_refusal};
 use mix_num::Memory;
 use mix_text::{Auction, Page};
 use std::alloc::Global;
 
-// Adds the rows between the first and the last.
+// Adds the rows of the outcome itself.
 #[tactic(auto, using(crate::proofs::PrintedPages::printed_alone))]
 fn add_inner(page: &mut Page, auction: &Auction, outcome: &Outcome) -> Result<(), Memory>
     requires closed { page.old.fields ≡ [] }
@@ -31,7 +31,8 @@ pub fn print_outcome(alloc: Global, auction: &Auction, outcome: &Outcome) -> Res
     ensures { IfOk result (λ bytes. bytes.items ≡ outcome_text (auction_text auction.now) outcome.now) }
 {
     let mut page = Page::new(alloc);
-    add_head(&mut page)?;
+    add_head(&mut page, auction.format)?;
+    add_order(&mut page, auction)?;
     add_inner(&mut page, auction, outcome)?;
     add_end(&mut page)?;
     page.finish()

@@ -2,19 +2,20 @@
 ghost use Rattle.std.specs.Prelude.{◌≡◌, ◌≤◌, ◌<◌, ◌+◌, ◌*◌, ◌∷◌, [], Ok, Err, length, drop, map, IfOk, IfErr, OnOk};
 ghost use Rattle.mix_text.specs.AuctionTexts.{auction_text};
 ghost use Rattle.mix_text.specs.Bidders.{name_at};
+ghost use Rattle.mix_text.specs.Reading.{end_of};
 ghost use Rattle.mix_answer.specs.Outcomes.{bidders_goods, outcome_rows, with_each};
 ghost use Rattle.mix_answer.specs.Shapes.{HasShape};
-ghost use Rattle.mix_answer.specs.Readings.{IsFromRows, amounts_of, answer_in, first_row, first_rows, following, head_of, inner_in, last_of, lines_of, none_left, outcome_after, share_of, tight_of};
+ghost use Rattle.mix_answer.specs.Readings.{IsFromRows, amounts_of, answer_in, first_row, first_rows, following, head_of, inner_in, lines_of, none_left, order_in, outcome_after, share_of, tight_of};
 
 use crate::faults::OutcomeError;
 use crate::outcome::{Answer, Outcome};
 use crate::row_reading::{
-    read_cleared, read_head, read_last, read_refusal_row, read_share, read_tight,
+    read_cleared, read_head, read_last, read_order, read_refusal_row, read_share, read_tight,
 };
 use crate::share::{Share, Shares};
 use crate::tights::Tights;
 use mix_num::{Prices, Tight};
-use mix_text::{Auction, Code, Fault, Name, Rest, Row, read_numbers, row_begins};
+use mix_text::{Auction, Code, Fault, Name, Rest, Row, has_order, read_numbers, row_begins};
 use std::alloc::Global;
 
 // The fault of the row with this number.
@@ -37,13 +38,30 @@ fn row_or_end(rest: &Rest, k: usize) -> Result<&Row, OutcomeError>
 }
 
 // Reads the first row.
-fn read_first(rest: &Rest) -> Result<(), OutcomeError>
-    ensures read { OnOk result (first_row rest.now.next head_of rest.now.rows ≡ Ok (tt, drop 1 rest.now.rows)) }
-    ensures wrong { IfErr result (λ e. first_row rest.now.next head_of rest.now.rows ≡ Err e) }
+fn read_first(rest: &Rest, format: u8) -> Result<(), OutcomeError>
+    ensures read { OnOk result (first_row rest.now.next (head_of format) rest.now.rows ≡ Ok (tt, drop 1 rest.now.rows)) }
+    ensures wrong { IfErr result (λ e. first_row rest.now.next (head_of format) rest.now.rows ≡ Err e) }
 {
     let row = row_or_end(rest, 0)?;
-    match read_head(row) {
+    match read_head(row, format) {
         Ok(()) => Ok(()),
+        Err(code) => Err(fault(row.number(), code)),
+    }
+}
+
+// Reads the row of the tie order, which comes second where the format states the order, and gives the place after it.
+#[tactic(auto, unfolding(crate::specs::Readings::order_in))]
+fn read_second(auction: &Auction, rest: &Rest) -> Result<usize, OutcomeError>
+    ensures read { IfOk result (λ place. order_in (auction_text auction.now) rest.now.next (drop 1 rest.now.rows) ≡ Ok (drop place rest.now.rows)) }
+    ensures near { IfOk result (λ place. place ≤ 2) }
+    ensures wrong { IfErr result (λ e. order_in (auction_text auction.now) rest.now.next (drop 1 rest.now.rows) ≡ Err e) }
+{
+    if !has_order(auction.format) {
+        return Ok(1);
+    }
+    let row = row_or_end(rest, 1)?;
+    match read_order(row, auction) {
+        Ok(()) => Ok(2),
         Err(code) => Err(fault(row.number(), code)),
     }
 }
@@ -74,16 +92,22 @@ fn read_share_at(rest: &Rest, k: usize, name: &Name, goods: usize) -> Result<Sha
     }
 }
 
-// Reads the share of each bidder: the rows from the fourth on.
-fn read_shares(alloc: Global, auction: &Auction, rest: &Rest) -> Result<Shares, OutcomeError>
-    ensures read { IfOk result (λ shares. first_rows rest.now.next (λ bidder. share_of (length auction.now.goods) bidder.0) auction.now.bidders (drop 3 rest.now.rows) ≡ Ok (shares, drop (3 + length auction.now.bidders) rest.now.rows)) }
-    ensures wrong { IfErr result (λ e. IsFromRows (first_rows rest.now.next (λ bidder. share_of (length auction.now.goods) bidder.0) auction.now.bidders (drop 3 rest.now.rows)) e) }
+// Reads the share of each bidder: the rows from the one at `first` on.
+fn read_shares(
+    alloc: Global,
+    auction: &Auction,
+    rest: &Rest,
+    first: usize,
+) -> Result<Shares, OutcomeError>
+    requires { first ≤ 1000 }
+    ensures read { IfOk result (λ shares. first_rows rest.now.next (λ bidder. share_of (length auction.now.goods) bidder.0) auction.now.bidders (drop first rest.now.rows) ≡ Ok (shares, drop (first + length auction.now.bidders) rest.now.rows)) }
+    ensures wrong { IfErr result (λ e. IsFromRows (first_rows rest.now.next (λ bidder. share_of (length auction.now.goods) bidder.0) auction.now.bidders (drop first rest.now.rows)) e) }
 {
     let goods = auction.goods.len();
     let mut shares = Shares::new(alloc);
     for k in 0..auction.count() {
         let (name, _) = auction.bidder(k);
-        let share = read_share_at(rest, 3 + k, name, goods)?;
+        let share = read_share_at(rest, first + k, name, goods)?;
         let Ok(()) = shares.push(share) else {
             return Err(OutcomeError::Memory);
         };
@@ -153,18 +177,24 @@ fn read_tights(
     Ok(tights)
 }
 
-// Reads an answer: the rows from the third on.
+// Reads an answer: the rows from the one at `first` on.
 #[tactic(auto, unfolding(crate::specs::Readings::answer_in))]
-fn read_answer(alloc: Global, auction: &Auction, rest: &Rest) -> Result<Answer, OutcomeError>
-    ensures read { IfOk result (λ answer. answer_in (auction_text auction.now) rest.now.next (drop 2 rest.now.rows) ≡ Ok (answer, drop (4 + length auction.now.bidders + length auction.now.bidders * length auction.now.goods) rest.now.rows)) }
-    ensures wrong { IfErr result (λ e. IsFromRows (answer_in (auction_text auction.now) rest.now.next (drop 2 rest.now.rows)) e) }
+fn read_answer(
+    alloc: Global,
+    auction: &Auction,
+    rest: &Rest,
+    first: usize,
+) -> Result<Answer, OutcomeError>
+    requires { first ≤ 3 }
+    ensures read { IfOk result (λ answer. answer_in (auction_text auction.now) rest.now.next (drop first rest.now.rows) ≡ Ok (answer, drop (first + 2 + length auction.now.bidders + length auction.now.bidders * length auction.now.goods) rest.now.rows)) }
+    ensures wrong { IfErr result (λ e. IsFromRows (answer_in (auction_text auction.now) rest.now.next (drop first rest.now.rows)) e) }
 {
     let goods = auction.goods.len();
     let count = auction.count();
-    let prices = read_amounts(rest, 2, b"price", goods)?;
-    let shares = read_shares(alloc, auction, rest)?;
-    let returns = read_amounts(rest, 3 + count, b"return", goods)?;
-    let tights = read_tights(alloc, auction, rest, 4 + count)?;
+    let prices = read_amounts(rest, first, b"price", goods)?;
+    let shares = read_shares(alloc, auction, rest, first + 1)?;
+    let returns = read_amounts(rest, first + 1 + count, b"return", goods)?;
+    let tights = read_tights(alloc, auction, rest, first + 2 + count)?;
     Ok(Answer {
         prices,
         shares,
@@ -180,19 +210,25 @@ struct Inner {
     after: usize,
 }
 
-// Reads a refusal or an answer: the rows from the second on.
+// Reads a refusal or an answer: the rows from the one at `first` on.
 #[tactic(auto, unfolding(crate::specs::Readings::inner_in))]
-fn read_inner(alloc: Global, auction: &Auction, rest: &Rest) -> Result<Inner, OutcomeError>
-    ensures read { IfOk result (λ inner. inner_in (auction_text auction.now) rest.now.next (drop 1 rest.now.rows) ≡ Ok (inner.outcome, drop inner.after rest.now.rows)) }
+fn read_inner(
+    alloc: Global,
+    auction: &Auction,
+    rest: &Rest,
+    first: usize,
+) -> Result<Inner, OutcomeError>
+    requires { first ≤ 2 }
+    ensures read { IfOk result (λ inner. inner_in (auction_text auction.now) rest.now.next (drop first rest.now.rows) ≡ Ok (inner.outcome, drop inner.after rest.now.rows)) }
     ensures near { IfOk result (λ inner. inner.after ≤ 4000) }
-    ensures wrong { IfErr result (λ e. IsFromRows (inner_in (auction_text auction.now) rest.now.next (drop 1 rest.now.rows)) e) }
+    ensures wrong { IfErr result (λ e. IsFromRows (inner_in (auction_text auction.now) rest.now.next (drop first rest.now.rows)) e) }
 {
-    let row = row_or_end(rest, 1)?;
+    let row = row_or_end(rest, first)?;
     if !row_begins(row, b"cleared") {
         return match read_refusal_row(row, auction) {
             Ok(refusal) => Ok(Inner {
                 outcome: Outcome::Refused(refusal),
-                after: 2,
+                after: first + 1,
             }),
             Err(code) => Err(fault(row.number(), code)),
         };
@@ -200,17 +236,17 @@ fn read_inner(alloc: Global, auction: &Auction, rest: &Rest) -> Result<Inner, Ou
     if let Err(code) = read_cleared(row) {
         return Err(fault(row.number(), code));
     }
-    let answer = read_answer(alloc, auction, rest)?;
+    let answer = read_answer(alloc, auction, rest, first + 1)?;
     Ok(Inner {
         outcome: Outcome::Cleared(answer),
-        after: 4 + auction.count() + auction.count() * auction.goods.len(),
+        after: first + 3 + auction.count() + auction.count() * auction.goods.len(),
     })
 }
 
 // Reads the row at a place, which is the last.
 fn read_last_at(rest: &Rest, k: usize) -> Result<(), OutcomeError>
-    ensures read { OnOk result (first_row rest.now.next last_of (drop k rest.now.rows) ≡ Ok (tt, drop (k + 1) rest.now.rows)) }
-    ensures wrong { IfErr result (λ e. first_row rest.now.next last_of (drop k rest.now.rows) ≡ Err e) }
+    ensures read { OnOk result (first_row rest.now.next end_of (drop k rest.now.rows) ≡ Ok (tt, drop (k + 1) rest.now.rows)) }
+    ensures wrong { IfErr result (λ e. first_row rest.now.next end_of (drop k rest.now.rows) ≡ Err e) }
 {
     let row = row_or_end(rest, k)?;
     match read_last(row) {
@@ -235,8 +271,9 @@ fn read_rows(alloc: Global, auction: &Auction, rest: &Rest) -> Result<Outcome, O
     ensures read { IfOk result (λ outcome. outcome_after (auction_text auction.now) rest.now ≡ Ok outcome) }
     ensures wrong { IfErr result (λ e. IsFromRows (outcome_after (auction_text auction.now) rest.now) e) }
 {
-    read_first(rest)?;
-    let inner = read_inner(alloc, auction, rest)?;
+    read_first(rest, auction.format)?;
+    let first = read_second(auction, rest)?;
+    let inner = read_inner(alloc, auction, rest, first)?;
     read_last_at(rest, inner.after)?;
     no_row_at(rest, inner.after + 1)?;
     Ok(inner.outcome)
@@ -247,7 +284,7 @@ fn read_rows(alloc: Global, auction: &Auction, rest: &Rest) -> Result<Outcome, O
 /// The rows are looked at in order, and the first that has a fault decides. Its code is that of the first of its tests
 /// that fails: `Place` where its first field is a word that may not stand there; `Fields` where the number of fields is
 /// wrong; then, from left to right, `Number` where a field spells no number and `Range` where it spells one out of its
-/// range (the version is 1), `Name` where a field has not the form of a name, and `Other` where it has and is not the
+/// range (the version is 1 in format 1, and 2 in format 2), `Name` where a field has not the form of a name, and `Other` where it has and is not the
 /// wanted one, where no bidder or good has it, or where the second choice of a refusal doesn't come after the first.
 /// Where the rows end too early, that is the fault `End` of the row that would come next; a row after `end` has the
 /// fault `After`. `Memory` may come in place of any answer.

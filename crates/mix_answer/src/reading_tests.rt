@@ -35,6 +35,13 @@ const LINES: [&[u8]; 11] = [
     b"end\n",
 ];
 
+// Two equal bids for one unit, the later bidder served first.
+const STATED_ORDER: &[u8] =
+    b"mix,2\ngoods,A\nsupply,1\nreserve,0\nbid,P,1,5\nbid,Q,1,5\norder,Q,P\nend\n";
+
+const STATED_ORDER_CLEARED: &[u8] =
+    b"outcome,2\norder,Q,P\ncleared\nprice,5\nshare,P,0,0\nshare,Q,1,5\nreturn,0\ntight,P,A,3,1\ntight,Q,A,2,0\nend\n";
+
 // An auction and then an outcome.
 fn both(alloc: Global, auction: &[u8], outcome: &[u8]) -> Result<Vec<u8>, Fail> {
     let mut text = auction.to_vec(alloc)?;
@@ -77,8 +84,13 @@ fn fault_of(alloc: Global, text: &[u8]) -> Result<Option<Fault>, Fail> {
 #[test]
 fn outcomes_again(rt: HostRuntime) -> Result<(), Fail> {
     let alloc = rt.alloc();
-    let cases: [(&[u8], &[u8]); 5] = [
+    let cases: [(&[u8], &[u8]); 7] = [
         (ONE_GOOD, ONE_GOOD_CLEARED),
+        (STATED_ORDER, STATED_ORDER_CLEARED),
+        (
+            STATED_ORDER,
+            b"outcome,2\norder,Q,P\nrefused,P,-,A,4,-1\nend\n",
+        ),
         (TWO_GOODS, TWO_GOODS_CLEARED),
         (TWO_GOODS, b"outcome,1\nrefused,X,A,B,5,5,-1\nend\n"),
         (
@@ -94,6 +106,27 @@ fn outcomes_again(rt: HostRuntime) -> Result<(), Fail> {
         let text = both(alloc, auction, outcome)?;
         let printed = read_and_print(alloc, &text)?.ok().ok_or("a fault")?;
         assert_eq!(rt; printed.as_slice(), outcome);
+    }
+    Ok(())
+}
+
+#[test]
+fn faults_before_the_outcome(rt: HostRuntime) -> Result<(), Fail> {
+    let alloc = rt.alloc();
+    let cases: [(&[u8], u64, Code); 9] = [
+        (b"outcome,1\norder,Q,P\ncleared\n", 9, Code::Range),
+        (b"outcome,3\norder,Q,P\ncleared\n", 9, Code::Range),
+        (b"outcome,two\norder,Q,P\ncleared\n", 9, Code::Number),
+        (b"outcome,2\ncleared\n", 10, Code::Place),
+        (b"outcome,2\norder,Q\ncleared\n", 10, Code::Fields),
+        (b"outcome,2\norder,P,Q\ncleared\n", 10, Code::Other),
+        (b"outcome,2\norder,Q,7\ncleared\n", 10, Code::Name),
+        (b"outcome,2\norder,Q,P\norder,Q,P\n", 11, Code::Place),
+        (b"outcome,2\n", 10, Code::End),
+    ];
+    for (outcome, at, code) in cases {
+        let text = both(alloc, STATED_ORDER, outcome)?;
+        assert_eq!(rt; fault_of(alloc, &text)?, Some(Fault { at, code }));
     }
     Ok(())
 }

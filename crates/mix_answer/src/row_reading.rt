@@ -1,15 +1,17 @@
 // What a row of an outcome says by itself, or the code of the first of its tests that fails.
-ghost use Rattle.std.specs.Prelude.{◌≡◌, ◌≤◌, ◌<◌, ◌≤ℤ◌, ◌+◌, pos, neg_ℤ, length, nat_abs, nat_lt, IfOk, IfErr};
+ghost use Rattle.std.specs.Prelude.{◌≡◌, ◌≤◌, ◌<◌, ◌≤ℤ◌, ◌+◌, pos, neg_ℤ, length, drop, nat_abs, nat_lt, IfOk, IfErr};
 ghost use Rattle.mix_text.specs.AuctionTexts.{auction_text};
-ghost use Rattle.mix_text.specs.Reading.{field_at, holds};
-ghost use Rattle.mix_answer.specs.Readings.{bidder_of, choice_of, cleared_of, head_of, last_of, numbers_at, refusal_of, refusal_row_of, set_of, share_of, tight_of, wanted_name};
+ghost use Rattle.mix_text.specs.Bidders.{names_at};
+ghost use Rattle.mix_text.specs.Reading.{bidder_of, end_of, field_at, holds};
+ghost use Rattle.mix_answer.specs.Outcomes.{version_of};
+ghost use Rattle.mix_answer.specs.Readings.{choice_of, cleared_of, head_of, numbers_at, order_of, refusal_of, refusal_row_of, set_of, share_of, tight_of, wanted_name, wanted_names};
 
 use crate::refusal::Refusal;
 use crate::share::Share;
 use mix_num::{Prices, Set, Tight};
 use mix_text::{
-    Auction, Bidders, Code, Name, Names, Row, read_name, read_number, read_numbers, row_begins,
-    unless,
+    Auction, Bidders, Code, Name, Names, Row, has_order, read_name, read_number, read_numbers,
+    row_begins, unless,
 };
 
 // Tests that the name at a place is the wanted one.
@@ -23,7 +25,6 @@ fn read_wanted(row: &Row, k: usize, wanted: &Name) -> Result<(), Code>
 }
 
 // The place of the bidder that the name at a place tells.
-#[tactic(auto, unfolding(crate::specs::Readings::bidder_of))]
 fn read_bidder(row: &Row, k: usize, bidders: &Bidders) -> Result<usize, Code>
     requires { k < length row.now.fields }
     ensures { result ≡ bidder_of bidders.now (field_at row.now.fields k) }
@@ -133,12 +134,43 @@ pub fn read_refusal_row(row: &Row, auction: &Auction) -> Result<Refusal, Code>
     read_refusal(row, auction)
 }
 
-/// Reads the first row.
-pub fn read_head(row: &Row) -> Result<(), Code>
-    ensures { result ≡ head_of row.now.fields }
+/// The version of an outcome's text, which follows from the format of its auction.
+pub fn version(format: u8) -> i64
+    ensures { result ≡ pos (version_of format) }
 {
-    read_numbers(row, b"outcome", 1, 1, 1)?;
+    if has_order(format) { 2 } else { 1 }
+}
+
+/// Reads the first row.
+pub fn read_head(row: &Row, format: u8) -> Result<(), Code>
+    ensures { result ≡ head_of format row.now.fields }
+{
+    let wanted = version(format);
+    read_numbers(row, b"outcome", 1, wanted, wanted)?;
     Ok(())
+}
+
+// Tests the names after the first field: they are those of all bidders, in tie order.
+#[tactic(auto, using(mix_text::proofs::AuctionNames::bidder_served, crate::proofs::Turns::names_next, crate::proofs::Turns::names_wrong, crate::proofs::Turns::names_last))]
+fn read_wanted_names(row: &Row, auction: &Auction) -> Result<(), Code>
+    requires { length row.now.fields ≡ length auction.now.order + 1 }
+    ensures { result ≡ wanted_names (names_at auction.now.bidders auction.now.order) (drop 1 row.now.fields) }
+{
+    for turn in 0..auction.order.count() {
+        let (name, _) = auction.bidder(auction.order.place(turn));
+        read_wanted(row, turn + 1, name)?;
+    }
+    Ok(())
+}
+
+/// Reads the row of the tie order.
+#[tactic(auto, unfolding(crate::specs::Readings::order_of))]
+pub fn read_order(row: &Row, auction: &Auction) -> Result<(), Code>
+    ensures { result ≡ order_of (names_at auction.now.bidders auction.now.order) row.now.fields }
+{
+    unless(row_begins(row, b"order"), Code::Place)?;
+    unless(row.len() == auction.order.count() + 1, Code::Fields)?;
+    read_wanted_names(row, auction)
 }
 
 /// Reads the row before an answer, whose word is known.
@@ -178,9 +210,9 @@ pub fn read_tight(row: &Row, bidder: &Name, good: &Name, goods: usize) -> Result
 }
 
 /// Reads the last row.
-#[tactic(auto, unfolding(crate::specs::Readings::last_of, mix_text::specs::Reading::end_of))]
+#[tactic(auto, unfolding(mix_text::specs::Reading::end_of))]
 pub fn read_last(row: &Row) -> Result<(), Code>
-    ensures { result ≡ last_of row.now.fields }
+    ensures { result ≡ end_of row.now.fields }
 {
     unless(row_begins(row, b"end"), Code::Place)?;
     unless(row.len() == 1, Code::Fields)

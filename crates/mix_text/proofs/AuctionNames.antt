@@ -1,6 +1,7 @@
 -- The names of an auction's bidders have the form of names.
 use Rattle.std.proofs.Common.{◌≡◌, ◌<◌, ◌∙◌, sym, ap, true, ℕ, List, [], length, arith}
 use Rattle.std.proofs.lemmas.List.{get_or-map, length-map}
+use Rattle.mix_num.specs.Orders.{place_at}
 use Rattle.mix_bids.specs.Bids.{Book}
 use Rattle.mix_text.specs.Bidders.{name_at}
 use Rattle.mix_text.specs.Spelling.{is_name}
@@ -14,3 +15,7 @@ bidder_named auction k h =
   where
     nobody : List ℕ × Book
     nobody = ([], record { goods = 0; bids = [] })
+
+-- who is served at a turn is a bidder
+pub bidder_served : (auction : Auction) (turn : ℕ) → turn < length auction.order → place_at auction.order turn < length auction.bidders
+bidder_served auction turn h = let order = auction.sound.order in let size = order.size in order.within turn (omega (arith, h, size))

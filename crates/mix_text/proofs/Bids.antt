@@ -17,7 +17,7 @@ use Rattle.mix_text.specs.declared.formats.Limits.{Limits}
 use Rattle.mix_text.proofs.Entries.{list_any-absent, position-map}
 use Rattle.mix_text.proofs.Gathering.{among_different, bids_under_none, bids_under_snoc, bytes_eq_refl, different_snoc, different_unlike, map_at, map_other, same_bytes}
 
-any_before_end : {X : Type 0} (p : X → Bool) (xs : List X) → list_any p xs ≡ nat_lt (prefix_len (λ x. not (p x)) xs) (length xs)
+pub any_before_end : {X : Type 0} (p : X → Bool) (xs : List X) → list_any p xs ≡ nat_lt (prefix_len (λ x. not (p x)) xs) (length xs)
 any_before_end p [] = refl
 any_before_end p (x ∷ xs) = elim (cases_Bool (p x)) [
   | inl t ↦ rw t (grind (arith, nat_tests))

@@ -17,3 +17,7 @@ pub mod Sound
 pub mod SoundAuctions
 pub mod AuctionNames
 pub mod TieOrders
+pub mod FewCells
+pub mod NamesSoFar
+pub mod Upgrades
+pub mod OwnPlaces

@@ -22,7 +22,7 @@ use Rattle.mix_text.specs.Orders.{IsTieOrder}
 use Rattle.mix_text.specs.Bidders.{with_bid}
 use Rattle.mix_text.specs.Formats.{AreLimits, IsFormat, is_past, limits_of}
 use Rattle.mix_text.specs.Limits.{BidsMeet, MeetsLimits}
-use Rattle.mix_text.specs.Reading.{◌>>=◌, NamedBid, begins, bid_row_of, bidders_of, bids_from, bids_under, end_of, field_at, format_of, goods_at, goods_form_of, goods_row_of, header_of, holds, is_negative, limit_of, list_limit_of, list_under, ReadsBids, names_after, names_of, numbers_of, past_goods, placed, read_at, reading_of, row_at, unless_past}
+use Rattle.mix_text.specs.Reading.{◌>>=◌, NamedBid, begins, bid_row_of, bidders_of, bids_from, bids_under, end_from, ends_bids, field_at, format_of, goods_at, goods_form_of, goods_row_of, header_of, holds, is_negative, limit_of, list_limit_of, list_under, ReadsBids, names_after, names_of, numbers_of, order_from, past_goods, placed, read_at, reading_of, row_at, unless_past}
 use Rattle.mix_text.specs.declared.faults.Code.{Code}
 use Rattle.mix_text.specs.declared.faults.Code.TheVariants as code
 use Rattle.mix_text.specs.declared.faults.TextError.{TextError}
@@ -34,7 +34,7 @@ use Rattle.mix_text.proofs.Gathering.{Unlike, bids_under_snoc, bids_under_some, 
 use Rattle.mix_text.proofs.Sound.{IsNamedBid, bid_row_ok, holds_ok, numbers_ok, then_ok}
 use Rattle.mix_text.proofs.Spellings.{name_read}
 
-placed_ok : {X : Type 0} (number : ℕ) (r : Result X Code) (x : X) → placed number r ≡ Ok x → r ≡ Ok x
+pub placed_ok : {X : Type 0} (number : ℕ) (r : Result X Code) (x : X) → placed number r ≡ Ok x → r ≡ Ok x
 placed_ok number (Ok y) x e = let same : y ≡ x = cc e in ap (λ z. Ok z) same
 placed_ok number (Err c) x e = cc e
 
@@ -202,22 +202,22 @@ few_more limits n before b is none a =
       under = λ m. under_more limits n before b m l.1 (a.under m);
     }
 
-bids_ok : (limits : Limits) (n next : ℕ) (before : List NamedBid) (rows : List RowText) (read : List NamedBid × List RowText) → bids_from limits n next before rows ≡ Ok read → AreFew limits n before → AreFew limits n read.0
+bids_ok : (format : ℕ) (limits : Limits) (n : ℕ) (before : List NamedBid) (rows : List RowText) (read : List NamedBid × List RowText) → bids_from format limits n before rows ≡ Ok read → AreFew limits n before
+    → AreFew limits n read.0
 unfolding bids_from
-bids_ok limits n next before [] read e a = cc e
-bids_ok limits n next before (row ∷ rest) read e a = elim (cases_Bool (begins row.fields (codes "end"))) [
+bids_ok format limits n before [] read e a = let same : (before, []) ≡ read = cc e in subst (λ (z : List NamedBid × List RowText). AreFew limits n z.0) same a
+bids_ok format limits n before (row ∷ rest) read e a = elim (cases_Bool (ends_bids format row.fields)) [
   | inl t ↦ (
       let q = rw t at e in
-      let r = then_ok (placed row.number (end_of row.fields)) (λ _. Ok (before, rest)) read q in
-      let same : (before, rest) ≡ read = let z = r.2 in cc z in
+      let same : (before, row ∷ rest) ≡ read = cc q in
       subst (λ (z : List NamedBid × List RowText). AreFew limits n z.0) same a)
   | inr f ↦ (
       let q = rw f at e in
-      let b = then_ok (placed row.number (bid_row_of n row.fields)) (λ b. unless_past row.number (limit_of limits n before b) >>= λ _. bids_from limits n next (before ++ (b ∷ [])) rest) read q in
-      let l = then_ok (unless_past row.number (limit_of limits n before b.0)) (λ _. bids_from limits n next (before ++ (b.0 ∷ [])) rest) read b.2 in
+      let b = then_ok (placed row.number (bid_row_of n row.fields)) (λ b. unless_past row.number (limit_of limits n before b) >>= λ _. bids_from format limits n (before ++ (b ∷ [])) rest) read q in
+      let l = then_ok (unless_past row.number (limit_of limits n before b.0)) (λ _. bids_from format limits n (before ++ (b.0 ∷ [])) rest) read b.2 in
       let none = within_limit row.number (limit_of limits n before b.0) l.0 l.1 in
       let is = bid_row_ok n row.fields b.0 (placed_ok row.number (bid_row_of n row.fields) b.0 b.1) in
-      bids_ok limits n next (before ++ (b.0 ∷ [])) rest read l.2 (few_more limits n before b.0 is none a))
+      bids_ok format limits n (before ++ (b.0 ∷ [])) rest read l.2 (few_more limits n before b.0 is none a))
 ]
 
 -- no bids pass no limit
@@ -330,13 +330,13 @@ pub auction_ok : (rows : List RowText) (format : ℕ) (limits : Limits) (n : ℕ
     → (row_at rows 1 >>= goods_at limits) ≡ Ok goods
     → read_at rows 2 (numbers_of (codes "supply") n (pos 0) (pos 1000000)) ≡ Ok supply
     → read_at rows 3 (numbers_of (codes "reserve") n (pos 0) (pos 1000000)) ≡ Ok reserve
-    → ReadsBids limits n rows bidders place
+    → ReadsBids format limits n rows bidders place
     → IsTieOrder (length bidders) order
     → (format ≡ 1 → order ≡ places (length bidders))
     → IsAuction (record { format = format; goods = goods; supply = supply; reserve = reserve; bidders = bidders; order = order })
 auction_ok rows format limits n goods supply reserve bidders order place are count a b c d e ordered first =
     let r = then_ok (row_at rows 1) (goods_at limits) goods b in
-    let few = bids_ok limits n (length rows + 1) [] (drop 4 rows) (e.bids, drop place rows) e.read (none_yet limits n) in
+    let few = bids_ok format limits n [] (drop 4 rows) (e.bids, drop place rows) e.read (none_yet limits n) in
     let R : List (List ℕ × Book) → Type 0 = λ z. IsTieOrder (length z) order → (format ≡ 1 → order ≡ places (length z)) → IsAuction (record { format = format; goods = goods; supply = supply; reserve = reserve; bidders = z; order = order }) in
     let P : ℕ → Type 0 = λ m. R (bidders_of m e.bids) in
     let at_length = made format limits goods supply reserve e.bids order (first_ok rows format a) are (goods_ok limits r.0 goods r.2) (subst (λ (m : ℕ). AreAmounts m supply) count (amounts_at rows 2 (codes "supply") n supply c))
@@ -361,14 +361,15 @@ meet_when_read a rest read e h = let same : a ≡ read.0 = cc e in subst MeetsLi
 pub meets_limits : (rows : List RowText) (read : AuctionText × RestText) → reading_of rows ≡ Ok read → MeetsLimits read.0
 unfolding reading_of
 meets_limits rows read e =
-    let next = length rows + 1 in
     let header = then_ok (read_at rows 0 header_of) _ read e in
     let limits = limits_of header.0 in
     let goods = then_ok (row_at rows 1 >>= goods_at limits) _ read header.2 in
     let n = length goods.0 in
     let supply = then_ok (read_at rows 2 (numbers_of (codes "supply") n (pos 0) (pos 1000000))) _ read goods.2 in
     let reserve = then_ok (read_at rows 3 (numbers_of (codes "reserve") n (pos 0) (pos 1000000))) _ read supply.2 in
-    let bids = then_ok (bids_from limits n next [] (drop 4 rows)) _ read reserve.2 in
+    let bids = then_ok (bids_from header.0 limits n [] (drop 4 rows)) _ read reserve.2 in
+    let served = then_ok (order_from header.0 (bidders_of n bids.0.0) bids.0.1) _ read bids.2 in
+    let last = then_ok (end_from (length rows + 1) served.0.1) _ read served.2 in
     let row = then_ok (row_at rows 1) (goods_at limits) goods.0 goods.1 in
-    let few = bids_ok limits n next [] (drop 4 rows) bids.0 bids.1 (none_yet limits n) in
-    meet_when_read _ _ read bids.2 (bids_meet header.0 goods.0 supply.0 reserve.0 n bids.0.0 _ (goods_ok limits row.0 goods.0 row.2) few)
+    let few = bids_ok header.0 limits n [] (drop 4 rows) bids.0 bids.1 (none_yet limits n) in
+    meet_when_read _ _ read last.2 (bids_meet header.0 goods.0 supply.0 reserve.0 n bids.0.0 _ (goods_ok limits row.0 goods.0 row.2) few)

@@ -1,12 +1,14 @@
 -- Reading one row more of the bids: what it makes of the reading from there on.
-use Rattle.std.proofs.Common.{◌≡◌, ◌<◌, ◌≤◌, ◌+◌, ℕ, suc, List, [], ◌∷◌, ◌++◌, length, drop, get_or, refl, sym, ap, ◌∙◌, Some, None, true, false, Ok, Err, add-one}
-use Rattle.std.specs.Prelude.{codes}
+use Rattle.std.proofs.Common.{◌≡◌, ◌<◌, ◌≤◌, ◌+◌, ℕ, suc, List, [], ◌∷◌, ◌++◌, length, drop, get_or, refl, sym, ap, ◌∙◌, Some, None, true, false, Ok, Err, add-one, arith, nat_lt, inl, inr}
 use Rattle.std.proofs.Math.Seq.{drop-cons}
+use Rattle.std.proofs.lemmas.Bool.{cases_Bool}
+use Rattle.std.proofs.lemmas.Bool.Decides.{nat_tests}
 use Rattle.std.proofs.lemmas.List.{drop_all}
 use Rattle.mix_text.specs.Rows.{RowText}
-use Rattle.mix_text.specs.Reading.{NamedBid, begins, bid_row_of, bids_from, end_of, limit_of}
+use Rattle.mix_num.specs.Orders.{places}
+use Rattle.mix_text.specs.Bidders.{Named}
+use Rattle.mix_text.specs.Reading.{◌>>=◌, NamedBid, bid_row_of, bids_from, end_from, end_of, ends_bids, is_order_row, limit_of, order_from, order_row_of, placed, read_at}
 use Rattle.mix_text.specs.declared.faults.Code.{Code}
-use Rattle.mix_text.specs.declared.faults.Code.TheVariants as code
 use Rattle.mix_text.specs.declared.faults.What.{What}
 use Rattle.mix_text.specs.declared.faults.TextError.TheVariants as error
 use Rattle.mix_text.specs.declared.formats.Limits.{Limits}
@@ -14,34 +16,64 @@ use Rattle.mix_text.specs.declared.formats.Limits.{Limits}
 pub rows_from : (rows : List RowText) (k : ℕ) (row : RowText) → k < length rows → row ≡ get_or rows k row → drop k rows ≡ row ∷ drop (k + 1) rows
 rows_from rows k row h e = rw add-one (drop-cons rows k row h ∙ ap (λ (r : RowText). r ∷ drop (suc k) rows) (sym e))
 
-pub ends : (limits : Limits) (n next : ℕ) (before : List NamedBid) (row : RowText) (rest : List RowText) → true ≡ begins row.fields (codes "end") → Ok tt ≡ end_of row.fields
-    → bids_from limits n next before (row ∷ rest) ≡ Ok (before, rest)
+pub ends : (format : ℕ) (limits : Limits) (n : ℕ) (before : List NamedBid) (row : RowText) (rest : List RowText) → true ≡ ends_bids format row.fields
+    → bids_from format limits n before (row ∷ rest) ≡ Ok (before, row ∷ rest)
 unfolding bids_from
-ends limits n next before row rest h e = rw (← h, ← e) refl
+ends format limits n before row rest h = rw (← h) refl
 
-pub ends_wrong : (limits : Limits) (n next : ℕ) (before : List NamedBid) (row : RowText) (rest : List RowText) (c : Code) → true ≡ begins row.fields (codes "end") → Err c ≡ end_of row.fields
-    → bids_from limits n next before (row ∷ rest) ≡ Err (error.Fault (record { at = row.number; code = c }))
+pub bid_wrong : (format : ℕ) (limits : Limits) (n : ℕ) (before : List NamedBid) (row : RowText) (rest : List RowText) (c : Code) → false ≡ ends_bids format row.fields → bid_row_of n row.fields ≡ Err c
+    → bids_from format limits n before (row ∷ rest) ≡ Err (error.Fault (record { at = row.number; code = c }))
 unfolding bids_from
-ends_wrong limits n next before row rest c h e = rw (← h, ← e) refl
+bid_wrong format limits n before row rest c h e = rw (← h, e) refl
 
-pub bid_wrong : (limits : Limits) (n next : ℕ) (before : List NamedBid) (row : RowText) (rest : List RowText) (c : Code) → false ≡ begins row.fields (codes "end") → bid_row_of n row.fields ≡ Err c
-    → bids_from limits n next before (row ∷ rest) ≡ Err (error.Fault (record { at = row.number; code = c }))
+pub bid_past : (format : ℕ) (limits : Limits) (n : ℕ) (before : List NamedBid) (row : RowText) (rest : List RowText) (b : NamedBid) (w : What)
+    → false ≡ ends_bids format row.fields → bid_row_of n row.fields ≡ Ok b → Some w ≡ limit_of limits n before b
+    → bids_from format limits n before (row ∷ rest) ≡ Err (error.Limit (record { at = row.number; what = w }))
 unfolding bids_from
-bid_wrong limits n next before row rest c h e = rw (← h, e) refl
+bid_past format limits n before row rest b w h e l = rw (← h, e, ← l) refl
 
-pub bid_past : (limits : Limits) (n next : ℕ) (before : List NamedBid) (row : RowText) (rest : List RowText) (b : NamedBid) (w : What)
-    → false ≡ begins row.fields (codes "end") → bid_row_of n row.fields ≡ Ok b → Some w ≡ limit_of limits n before b
-    → bids_from limits n next before (row ∷ rest) ≡ Err (error.Limit (record { at = row.number; what = w }))
+pub bid_more : (format : ℕ) (limits : Limits) (n : ℕ) (before : List NamedBid) (row : RowText) (rest : List RowText) (b : NamedBid)
+    → false ≡ ends_bids format row.fields → bid_row_of n row.fields ≡ Ok b → None ≡ limit_of limits n before b
+    → bids_from format limits n before (row ∷ rest) ≡ bids_from format limits n (before ++ (b ∷ [])) rest
 unfolding bids_from
-bid_past limits n next before row rest b w h e l = rw (← h, e, ← l) refl
+bid_more format limits n before row rest b h e l = rw (← h, e, ← l) refl
 
-pub bid_more : (limits : Limits) (n next : ℕ) (before : List NamedBid) (row : RowText) (rest : List RowText) (b : NamedBid)
-    → false ≡ begins row.fields (codes "end") → bid_row_of n row.fields ≡ Ok b → None ≡ limit_of limits n before b
-    → bids_from limits n next before (row ∷ rest) ≡ bids_from limits n next (before ++ (b ∷ [])) rest
+pub none_more : (format : ℕ) (limits : Limits) (n : ℕ) (before : List NamedBid) (rows : List RowText) (k : ℕ) → length rows ≤ k
+    → bids_from format limits n before (drop k rows) ≡ Ok (before, [])
 unfolding bids_from
-bid_more limits n next before row rest b h e l = rw (← h, e, ← l) refl
+none_more format limits n before rows k h = rw (drop_all k rows h) refl
 
-pub none_more : (limits : Limits) (n next : ℕ) (before : List NamedBid) (rows : List RowText) (k : ℕ) → length rows ≤ k
-    → bids_from limits n next before (drop k rows) ≡ Err (error.Fault (record { at = next; code = code.End }))
-unfolding bids_from
-none_more limits n next before rows k h = rw (drop_all k rows h) refl
+-- ---- the rows after the bids
+
+-- the order that the row at a place states
+pub states : (format : ℕ) (bidders : Named) (rows : List RowText) (k : ℕ) (row : RowText) → k < length rows → row ≡ get_or rows k row → true ≡ is_order_row format row.fields
+    → order_from format bidders (drop k rows) ≡ (placed row.number (order_row_of bidders row.fields) >>= λ order. Ok (order, drop (k + 1) rows))
+unfolding order_from
+states format bidders rows k row h e o = rw (rows_from rows k row h e, ← o) refl
+
+-- no order is stated: another row, or none
+pub states_none : (format : ℕ) (bidders : Named) (rows : List RowText) (k : ℕ) (row : RowText) → k < length rows → row ≡ get_or rows k row → false ≡ is_order_row format row.fields
+    → order_from format bidders (drop k rows) ≡ Ok (places (length bidders), drop k rows)
+unfolding order_from
+states_none format bidders rows k row h e o = let r = rows_from rows k row h e in rw r (rw (← o) refl)
+
+pub no_row : (format : ℕ) (bidders : Named) (rows : List RowText) (k : ℕ) → length rows ≤ k → order_from format bidders (drop k rows) ≡ Ok (places (length bidders), drop k rows)
+unfolding order_from
+no_row format bidders rows k h = rw (drop_all k rows h) refl
+
+-- the last row stands at a place
+pub end_at : (rows : List RowText) (k : ℕ) → end_from (length rows + 1) (drop k rows) ≡ (read_at rows k end_of >>= λ _. Ok (drop (k + 1) rows))
+unfolding end_from
+end_at rows k = elim (cases_Bool (nat_lt k (length rows))) [
+  | inl t ↦ (
+      let l : k < length rows = grind (arith, nat_tests) in
+      let r : drop k rows ≡ get_or rows k (record { number = 0; fields = [] }) ∷ drop (k + 1) rows =
+      drop-cons rows k (record { number = 0; fields = [] }) l ∙ ap (λ (j : ℕ). get_or rows k (record { number = 0; fields = [] }) ∷ drop j rows) (next k) in
+      rw (t, r) refl)
+  | inr f ↦ (
+      let l : length rows ≤ k = grind (arith, nat_tests) in
+      rw f (rw (drop_all k rows l) refl))
+]
+  where
+    next : (k : ℕ) → suc k ≡ k + 1
+    next k = omega arith

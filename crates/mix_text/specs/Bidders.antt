@@ -1,5 +1,5 @@
 -- The bidders of an auction by name, in order of first appearance.
-use Rattle.std.specs.Prelude.{ℕ, List, [], ◌∷◌, ◌++◌, Option, position, slice_index_or, slice_set}
+use Rattle.std.specs.Prelude.{ℕ, List, [], ◌∷◌, ◌++◌, Option, map, position, slice_index_or, slice_set}
 use Rattle.std.specs.Str.{bytes_eq}
 use Rattle.mix_bids.specs.Bids.{Book}
 use Rattle.mix_bids.specs.declared.bid.Bid.{Bid}
@@ -18,6 +18,10 @@ bidder_at bidders k = slice_index_or bidders k ([], record { goods = 0; bids = [
 
 abbrev pub name_at : Named → ℕ → List ℕ
 name_at bidders k = (bidder_at bidders k).0
+
+-- the names of the bidders at these places
+abbrev pub names_at : Named → List ℕ → List (List ℕ)
+names_at bidders places = map (name_at bidders) places
 
 abbrev pub list_at : Named → ℕ → Book
 list_at bidders k = (bidder_at bidders k).1

@@ -1,5 +1,5 @@
 -- The formats of an auction's text, and how much of each quantity they let stand.
-use Rattle.std.specs.Prelude.{◌≡◌, ◌≤◌, ◌==◌, Bool, false, ℕ, nat_lt, if◌then◌else◌, Option, Some, None}
+use Rattle.std.specs.Prelude.{◌≡◌, ◌≤◌, ◌==◌, Bool, false, ℕ, nat_le, nat_lt, if◌then◌else◌, Option, Some, None}
 use Rattle.mix_text.specs.declared.formats.Limits.{Limits}
 
 -- the formats that there are, by their numbers: 1 and 2
@@ -16,6 +16,10 @@ mix_two = record { goods = 8; bidders = 256; bids = 400; negatives = None; cells
 -- the limits of a format
 unfoldable pub limits_of : ℕ → Limits
 limits_of format = if format == 1 then mix_one else mix_two
+
+-- whether a text of a format may state the tie order: from format 2 on
+abbrev pub has_order : ℕ → Bool
+has_order format = nat_le 2 format
 
 -- whether a count is greater than a limit, where there is one
 abbrev pub is_past : Option ℕ → ℕ → Bool

@@ -1,5 +1,5 @@
 -- The text of an auction, read row by row: the auction and the rows after it, or the first row with a fault or past a limit.
-use Rattle.std.specs.Prelude.{◌≡◌, ◌==◌, ◌≤◌, ◌+◌, ◌⊎◌, ◌&&◌, Bool, true, false, ℕ, suc, ℤ, pos, neg_ℤ, List, [], ◌∷◌, ◌++◌, length, drop, map, filter, count_by, not, slice_index_or, nat_lt, nat_le, int_lt, if◌then◌else◌, Option, Some, None, Result, Ok, Err, codes}
+use Rattle.std.specs.Prelude.{◌≡◌, ◌==◌, ◌≤◌, ◌+◌, ◌⊎◌, ◌&&◌, ◌||◌, Bool, true, false, ℕ, suc, ℤ, pos, neg_ℤ, List, [], ◌∷◌, ◌++◌, length, drop, map, filter, count_by, not, slice_index_or, nat_lt, nat_le, int_lt, if◌then◌else◌, Option, Some, None, Result, Ok, Err, codes}
 use Rattle.std.specs.Ordering.{int_eq}
 use Rattle.std.specs.Str.{bytes_eq}
 use Rattle.mix_bids.specs.Bids.{Book}
@@ -8,10 +8,11 @@ use Rattle.mix_bids.specs.Offers.{offers_some}
 use Rattle.mix_bids.specs.declared.bid.Bid.{Bid}
 use Rattle.mix_text.specs.Rows.{RestText, RowText}
 use Rattle.mix_text.specs.Spelling.{spelled_name, spelled_number, between}
-use Rattle.mix_text.specs.Bidders.{with_bid}
-use Rattle.mix_text.specs.Formats.{is_past, limits_of}
+use Rattle.mix_text.specs.Bidders.{Named, place_of, with_bid}
+use Rattle.mix_text.specs.Formats.{has_order, is_past, limits_of}
 use Rattle.mix_text.specs.Names.{different, is_among}
 use Rattle.mix_num.specs.Orders.{places}
+use Rattle.mix_text.specs.Orders.{is_served}
 use Rattle.mix_text.specs.Auctions.{AuctionText}
 use Rattle.mix_text.specs.declared.faults.Code.{Code}
 use Rattle.mix_text.specs.declared.faults.Code.TheVariants as code
@@ -104,9 +105,36 @@ bid_of n fields =
 unfoldable pub bid_row_of : ℕ → List (List ℕ) → Result NamedBid Code
 bid_row_of n fields = holds (begins fields (codes "bid")) code.Place >>= λ _. bid_of n fields
 
+-- whether a row of a format is a stated order, and whether it ends the bids: it is one, or the last row of the auction
+abbrev pub is_order_row : ℕ → List (List ℕ) → Bool
+is_order_row format fields = has_order format && begins fields (codes "order")
+
+abbrev pub ends_bids : ℕ → List (List ℕ) → Bool
+ends_bids format fields = begins fields (codes "end") || is_order_row format fields
+
+-- the place that is found, where one is
+abbrev pub found : Option ℕ → Result ℕ Code
+found None = Err code.Other
+found (Some k) = Ok k
+
+-- the place of the bidder whom a field names
+abbrev pub bidder_of : Named → List ℕ → Result ℕ Code
+bidder_of bidders field = spelled_name field >>= λ name. found (place_of name bidders)
+
+-- the places of the bidders whom fields name, after those seen before, none of them twice; as all who were seen are bidders, it makes no
+-- difference which of the two is tested first: that a name is a bidder's, or that it isn't one of those seen
+abbrev pub served_after : Named → List ℕ → List (List ℕ) → Result (List ℕ) Code
+served_after bidders seen [] = Ok seen
+served_after bidders seen (field ∷ rest) =
+    bidder_of bidders field >>= λ k. holds (not (is_served k seen)) code.Repeated >>= λ _. served_after bidders (seen ++ (k ∷ [])) rest
+
+-- a stated order, whose word is known: the name of every bidder once
+unfoldable pub order_row_of : Named → List (List ℕ) → Result (List ℕ) Code
+order_row_of bidders fields = holds (length fields == length bidders + 1) code.Fields >>= λ _. served_after bidders [] (drop 1 fields)
+
 -- the last row of an auction: `end` alone
 unfoldable pub end_of : List (List ℕ) → Result (Unit {0}) Code
-end_of fields = holds (length fields == 1) code.Fields
+end_of fields = holds (begins fields (codes "end")) code.Place >>= λ _. holds (length fields == 1) code.Fields
 
 -- ---- limits
 
@@ -166,16 +194,29 @@ row_at rows k = if nat_lt k (length rows) then Ok (slice_index_or rows k (record
 abbrev pub read_at : {X : Type 0} → List RowText → ℕ → (List (List ℕ) → Result X Code) → Result X TextError
 read_at rows k read = row_at rows k >>= λ row. placed row.number (read row.fields)
 
--- the bids over n goods up to the row `end`, given those before them, and the rows after it; `next` is the number after the last row's
-unfoldable pub bids_from : Limits → ℕ → ℕ → List NamedBid → List RowText → Result (List NamedBid × List RowText) TextError
-bids_from limits n next before [] = ends_early next
-bids_from limits n next before (row ∷ rest) =
-    if begins row.fields (codes "end")
-    then (placed row.number (end_of row.fields) >>= λ _. Ok (before, rest))
+-- the bids over n goods up to the row that ends them, given those before them, and the rows from that row on
+unfoldable pub bids_from : ℕ → Limits → ℕ → List NamedBid → List RowText → Result (List NamedBid × List RowText) TextError
+bids_from format limits n before [] = Ok (before, [])
+bids_from format limits n before (row ∷ rest) =
+    if ends_bids format row.fields
+    then Ok (before, row ∷ rest)
     else (
     placed row.number (bid_row_of n row.fields) >>= λ b.
     unless_past row.number (limit_of limits n before b) >>= λ _.
-    bids_from limits n next (before ++ (b ∷ [])) rest)
+    bids_from format limits n (before ++ (b ∷ [])) rest)
+
+-- the tie order that the first of these rows states, or else that of first appearance, and the rows after it
+unfoldable pub order_from : ℕ → Named → List RowText → Result (List ℕ × List RowText) TextError
+order_from format bidders [] = Ok (places (length bidders), [])
+order_from format bidders (row ∷ rest) =
+    if is_order_row format row.fields
+    then (placed row.number (order_row_of bidders row.fields) >>= λ order. Ok (order, rest))
+    else Ok (places (length bidders), row ∷ rest)
+
+-- the rows after the row `end`; `next` is the number after the last row's
+unfoldable pub end_from : ℕ → List RowText → Result (List RowText) TextError
+end_from next [] = ends_early next
+end_from next (row ∷ rest) = placed row.number (end_of row.fields) >>= λ _. Ok rest
 
 -- the bidders of these bids over n goods: their different names in order of first appearance, each with its bids in their order
 abbrev pub bidders_of : ℕ → List NamedBid → List (List ℕ × Book)
@@ -196,8 +237,13 @@ reading_of rows =
     row_at rows 1 >>= goods_at (limits_of format) >>= λ goods.
     read_at rows 2 (numbers_of (codes "supply") (length goods) (pos 0) (pos 1000000)) >>= λ supply.
     read_at rows 3 (numbers_of (codes "reserve") (length goods) (pos 0) (pos 1000000)) >>= λ reserve.
-    bids_from (limits_of format) (length goods) (length rows + 1) [] (drop 4 rows) >>= λ read.
-    Ok (record { format = format; goods = goods; supply = supply; reserve = reserve; bidders = bidders_of (length goods) read.0; order = places (length (bidders_of (length goods) read.0)) }, record { rows = read.1; next = length rows + 1 })
+    bids_from format (limits_of format) (length goods) [] (drop 4 rows) >>= λ read.
+    order_from format (bidders_of (length goods) read.0) read.1 >>= λ served.
+    end_from (length rows + 1) served.1 >>= λ rest.
+    Ok (
+      record { format = format; goods = goods; supply = supply; reserve = reserve; bidders = bidders_of (length goods) read.0; order = served.0 },
+      record { rows = rest; next = length rows + 1 },
+    )
 
 -- no row is left, or the first that is left is a fault
 abbrev pub nothing_after : List RowText → Result (Unit {0}) Fault
@@ -220,9 +266,14 @@ prices_after n rest = price_in n rest.next rest.rows
 abbrev pub IsFromText : {X : Type 0} → Result X TextError → TextError → Type 0
 IsFromText read e = (e ≡ error.Memory) ⊎ (read ≡ Err e)
 
--- these bidders are those of the bids from the fifth row on, over n goods and within the limits, and their auction ends before the row at a place
-pub record ReadsBids (limits : Limits) (n : ℕ) (rows : List RowText) (bidders : List (List ℕ × Book)) (place : ℕ) : Type 0 where
+-- these bidders are those of the bids from the fifth row on, over n goods and within the limits, which end before the row at a place
+pub record ReadsBids (format : ℕ) (limits : Limits) (n : ℕ) (rows : List RowText) (bidders : List (List ℕ × Book)) (place : ℕ) : Type 0 where
   pub bids : List NamedBid
-  pub read : bids_from limits n (length rows + 1) [] (drop 4 rows) ≡ Ok (bids, drop place rows)
+  pub read : bids_from format limits n [] (drop 4 rows) ≡ Ok (bids, drop place rows)
   pub gathered : bidders ≡ bidders_of n bids
   pub within : place ≤ length rows
+
+-- this order is the one from the row at a place on, and the rows go on at another place
+pub record ReadsOrder (format : ℕ) (bidders : List (List ℕ × Book)) (rows : List RowText) (place : ℕ) (order : List ℕ) (next : ℕ) : Type 0 where
+  pub read : order_from format bidders (drop place rows) ≡ Ok (order, drop next rows)
+  pub within : next ≤ length rows

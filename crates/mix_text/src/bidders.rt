@@ -1,8 +1,9 @@
 // The bidders by name, in order of first appearance.
-ghost use Rattle.std.specs.Prelude.{◌≡◌, ◌<◌, ◌∷◌, ◌++◌, [], None, length, IfOk, IfSome, OnOk, OnErr};
+ghost use Rattle.std.specs.Prelude.{◌≡◌, ◌<◌, ◌∷◌, ◌++◌, [], None, length, map, IfOk, IfSome, OnOk, OnErr};
 ghost use Rattle.mix_bids.specs.Bids.{IsBid};
 ghost use Rattle.mix_text.specs.Bidders.{list_at, name_at, place_of, with_bid_at};
 ghost use Rattle.mix_text.specs.Formats.{AreLimits};
+ghost use Rattle.mix_text.specs.Names.{AreNames};
 ghost use Rattle.mix_text.specs.Reading.{list_limit_of};
 
 use crate::bid_limits::push_within;
@@ -74,6 +75,19 @@ impl Bidders {
         ensures list { result.1.now ≡ list_at self.now k }
     {
         self.named.get_index(k).unwrap()
+    }
+
+    // Equal bidders, of whom no two have the same name.
+    pub(crate) fn copy(&self, alloc: Global) -> Result<Bidders, Memory>
+        requires { AreNames (map (λ bidder. bidder.0) self.now) }
+        ensures { IfOk result (λ bidders. bidders ≡ self.now) }
+    {
+        let mut bidders = Bidders::new(alloc);
+        for k in 0..self.count() {
+            let (name, list) = self.bidder(k);
+            bidders.add(*name, list.copy(alloc)?)?;
+        }
+        Ok(bidders)
     }
 
     /// Adds a bid at the end of the list of the bidder at a place, from 0, unless it would be one too many, and gives the

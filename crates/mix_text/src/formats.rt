@@ -1,6 +1,6 @@
 // The formats of an auction's text, and how much of each quantity they let stand.
 ghost use Rattle.std.specs.Prelude.{◌≡◌};
-ghost use Rattle.mix_text.specs.Formats.{AreLimits, limits_of as limits_of_format};
+ghost use Rattle.mix_text.specs.Formats.{AreLimits, has_order as has_order_of, limits_of as limits_of_format};
 
 /// How much of each quantity a format lets stand; None where it sets no limit.
 #[derive(Clone, Copy)]
@@ -42,4 +42,11 @@ pub fn limits_of(format: u8) -> Limits
     ensures sound { AreLimits result }
 {
     if format == 1 { MIX_ONE } else { MIX_TWO }
+}
+
+/// Whether a text of a format may state the tie order: from format 2 on.
+pub fn has_order(format: u8) -> bool
+    ensures { result ≡ has_order_of format }
+{
+    format >= 2
 }

@@ -4,10 +4,12 @@
 mod auction;
 mod bid_limits;
 mod bidders;
+mod copies;
 mod faults;
 mod formats;
 mod names;
 mod order;
+mod order_reading;
 mod page;
 mod price;
 mod reading;
@@ -19,7 +21,9 @@ mod spelling;
 
 pub use auction::Auction;
 pub use bidders::Bidders;
+pub use copies::upgrade;
 pub use faults::{Code, Fault, Limit, TextError, What};
+pub use formats::has_order;
 pub use names::Names;
 pub use order::Order;
 pub use page::Page;

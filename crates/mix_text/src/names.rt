@@ -1,6 +1,6 @@
 // The names of the goods.
-ghost use Rattle.std.specs.Prelude.{◌≡◌, ◌<◌, ◌++◌, ◌∷◌, [], false, length, IfSome, OnErr, OnOk, slice_index_or};
-ghost use Rattle.mix_text.specs.Names.{is_among, place_among};
+ghost use Rattle.std.specs.Prelude.{◌≡◌, ◌<◌, ◌++◌, ◌∷◌, [], false, length, IfOk, IfSome, OnErr, OnOk, slice_index_or};
+ghost use Rattle.mix_text.specs.Names.{AreNames, is_among, place_among};
 ghost use Rattle.mix_text.specs.Rows.{is_empty};
 
 use crate::spelling::Name;
@@ -58,6 +58,18 @@ impl Names {
             return Err(Memory);
         };
         Ok(())
+    }
+
+    // Equal names, of which no two are alike.
+    pub(crate) fn copy(&self, alloc: Global) -> Result<Names, Memory>
+        requires { AreNames self.now }
+        ensures { IfOk result (λ names. names ≡ self.now) }
+    {
+        let mut names = Names::new(alloc);
+        for k in 0..self.len() {
+            names.push(*self.get(k))?;
+        }
+        Ok(names)
     }
 
     /// How many there are.

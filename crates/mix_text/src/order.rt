@@ -52,6 +52,17 @@ impl Order {
         Ok(())
     }
 
+    // An equal order.
+    pub(crate) fn copy(&self, alloc: Global) -> Result<Order, Memory>
+        ensures { IfOk result (λ order. order ≡ self.now) }
+    {
+        let mut order = Order::new(alloc);
+        for place in self.places() {
+            order.push(*place)?;
+        }
+        Ok(order)
+    }
+
     /// The places in order.
     pub fn places(&self) -> &[usize]
         ensures { result.now ≡ self.now }

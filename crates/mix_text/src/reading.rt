@@ -1,36 +1,30 @@
 // The auction of a text: its rows in order, up to the first that has a fault or passes a limit.
 ghost use Rattle.std.specs.Prelude.{◌≡◌, ◌≢◌, ◌≤◌, ◌<◌, ◌+◌, ◌∷◌, ◌++◌, [], List, ℕ, Some, None, Ok, Err, length, drop, codes, pos, IfOk, IfErr, OnOk};
 ghost use Rattle.mix_bids.specs.Bids.{IsBid};
-ghost use Rattle.mix_num.specs.Orders.{places as places_of};
 ghost use Rattle.mix_text.specs.Bidders.{place_of};
 ghost use Rattle.mix_text.specs.AuctionTexts.{auction_text};
 ghost use Rattle.mix_text.specs.Formats.{AreLimits};
 ghost use Rattle.mix_text.specs.Limits.{MeetsLimits};
 ghost use Rattle.mix_text.specs.Rows.{RestText, RowText, rows_of};
-ghost use Rattle.mix_text.specs.Reading.{IsFromText, ReadsBids, header_of, read_at, bidders_of, bids_from, field_at, goods_at, goods_form_of, limit_of, list_limit_of, NamedBid, names_after, numbers_of, placed, reading_of, row_at, unless_past};
+ghost use Rattle.mix_text.specs.Reading.{IsFromText, ReadsBids, header_of, read_at, bidders_of, bids_from, end_of, field_at, goods_at, goods_form_of, limit_of, list_limit_of, NamedBid, names_after, numbers_of, placed, reading_of, row_at, unless_past};
 
 use crate::auction::Auction;
 use crate::bid_limits::push_within;
 use crate::bidders::Bidders;
-use crate::faults::{Code, Fault, Limit, TextError, What};
+use crate::faults::{Code, Limit, TextError, What};
 use crate::formats::{Limits, limits_of};
 use crate::names::Names;
-use crate::order::Order;
+use crate::order_reading::{ends_the_bids, read_order};
 use crate::rest::Rest;
 use crate::row::Row;
 use crate::row_list::rows;
-use crate::row_reading::{read_bid_row, read_end, read_header, read_numbers, row_begins, unless};
+use crate::row_reading::{
+    fault, read_bid_row, read_end, read_header, read_numbers, row_begins, unless,
+};
 use crate::spelling::{Name, read_name};
 use mix_bids::{Bid, BidList};
 use mix_num::{Memory, Prices};
 use std::alloc::Global;
-
-// The fault of the row with this number.
-fn fault(number: u64, code: Code) -> TextError
-    ensures { result ≡ TextError.Fault (record { at = number; code = code }) }
-{
-    TextError::Fault(Fault { at: number, code })
-}
 
 // The limit that the row with this number passes.
 fn limit(number: u64, what: What) -> TextError
@@ -156,36 +150,31 @@ fn add_bid(
     }
 }
 
-/// The bids of an auction by name, and the place after its last row.
+/// The bids of an auction by name, and the place of the row that ends them.
 #[derive(Drop)]
 struct Gathered {
     bidders: Bidders,
-    after: usize,
+    end: usize,
 }
 
-// Reads the bids over `goods` goods from the fifth row on, up to the row `end`.
+// Reads the bids over `goods` goods from the fifth row on, up to the row that ends them.
 fn read_bids(
     alloc: Global,
+    format: u8,
     limits: &Limits,
     rows: &[Row],
     goods: usize,
 ) -> Result<Gathered, TextError>
     requires limits { AreLimits limits.now }
     requires goods { (1 ≤ goods) × (goods ≤ 8) }
-    ensures read { IfOk result (λ read. ReadsBids limits.now goods rows.now read.bidders read.after) }
-    ensures wrong { IfErr result (λ e. IsFromText (bids_from limits.now goods (length rows.now + 1) [] (drop 4 rows.now)) e) }
+    ensures read { IfOk result (λ read. ReadsBids format limits.now goods rows.now read.bidders read.end) }
+    ensures wrong { IfErr result (λ e. IsFromText (bids_from format limits.now goods [] (drop 4 rows.now)) e) }
 {
     let mut bidders = Bidders::new(alloc);
     for k in 4..rows.len() {
         let row = &rows[k];
-        if row_begins(row, b"end") {
-            return match read_end(row) {
-                Ok(()) => Ok(Gathered {
-                    bidders,
-                    after: k + 1,
-                }),
-                Err(code) => Err(fault(row.number(), code)),
-            };
+        if ends_the_bids(format, row) {
+            return Ok(Gathered { bidders, end: k });
         }
         let (name, bid) = match read_bid_row(row, goods) {
             Ok(named) => named,
@@ -197,7 +186,10 @@ fn read_bids(
             Err(Memory) => return Err(TextError::Memory),
         }
     }
-    Err(fault(rows.len() as u64 + 1, Code::End))
+    Ok(Gathered {
+        bidders,
+        end: rows.len(),
+    })
 }
 
 // Reads the row at a place: a word, and an amount from 0 to 1,000,000 for each good.
@@ -224,14 +216,14 @@ fn read_first(rows: &[Row]) -> Result<u8, TextError>
     }
 }
 
-// The bidders in order of first appearance, as they are served where no other order is stated.
-fn first_order(alloc: Global, bidders: &Bidders) -> Result<Order, TextError>
-    ensures order { IfOk result (λ order. order ≡ places_of (length bidders.now)) }
-    ensures wrong { IfErr result (λ e. e ≡ TextError.Memory) }
+// Reads the last row of an auction, which stands at a place.
+fn read_last(rows: &[Row], k: usize) -> Result<(), TextError>
+    ensures { result ≡ read_at rows.now k end_of }
 {
-    match Order::of_appearance(alloc, bidders.count()) {
-        Ok(order) => Ok(order),
-        Err(Memory) => Err(TextError::Memory),
+    let row = row_or_end(rows, k)?;
+    match read_end(row) {
+        Ok(()) => Ok(()),
+        Err(code) => Err(fault(row.number(), code)),
     }
 }
 
@@ -243,7 +235,7 @@ struct ReadRows {
 }
 
 // Reads the auction of these rows.
-#[tactic(auto, unfolding(crate::specs::Reading::reading_of), using(crate::proofs::SoundAuctions::auction_ok))]
+#[tactic(auto, unfolding(crate::specs::Reading::reading_of), using(crate::proofs::Steps::end_at))]
 fn read_rows(alloc: Global, rows: &[Row]) -> Result<ReadRows, TextError>
     ensures read { IfOk result (λ read. reading_of rows.now ≡ Ok (auction_text read.auction, record { rows = drop read.after rows.now; next = length rows.now + 1 })) }
     ensures within { IfOk result (λ read. read.after ≤ length rows.now) }
@@ -255,8 +247,9 @@ fn read_rows(alloc: Global, rows: &[Row]) -> Result<ReadRows, TextError>
     let count = goods.len();
     let supply = read_amounts(rows, 2, b"supply", count)?;
     let reserve = read_amounts(rows, 3, b"reserve", count)?;
-    let gathered = read_bids(alloc, &limits, rows, count)?;
-    let order = first_order(alloc, &gathered.bidders)?;
+    let gathered = read_bids(alloc, format, &limits, rows, count)?;
+    let served = read_order(alloc, format, &gathered.bidders, rows, gathered.end)?;
+    read_last(rows, served.after)?;
     Ok(ReadRows {
         auction: Auction {
             format,
@@ -264,9 +257,9 @@ fn read_rows(alloc: Global, rows: &[Row]) -> Result<ReadRows, TextError>
             supply,
             reserve,
             bidders: gathered.bidders,
-            order,
+            order: served.order,
         },
-        after: gathered.after,
+        after: served.after + 1,
     })
 }
 
@@ -276,7 +269,8 @@ fn read_rows(alloc: Global, rows: &[Row]) -> Result<ReadRows, TextError>
 /// within a row. Where the rows end before `end`, that is the fault `End` of the row that would come next.
 /// The auction that is read keeps to the limits of its format. Of each bidder both let 400 bids stand. Format 1 has at
 /// most 5 goods, 64 bidders, and of each bidder 12 bids of negative weight; format 2 has at most 8 goods, 256 bidders,
-/// and of each bidder's list 4,194,304 cells. `Memory` may come in place of any answer.
+/// and of each bidder's list 4,194,304 cells. The tie order is that of the row `order`, which format 2 may have before
+/// `end`, or else that of first appearance. `Memory` may come in place of any answer.
 pub fn read_auction(alloc: Global, text: &[u8]) -> Result<(Auction, Rest), TextError>
     requires { length text.now ≤ 16777216 }
     ensures read { IfOk result (λ p. reading_of (rows_of text.now) ≡ Ok (auction_text p.0, p.1)) }

@@ -3,11 +3,18 @@ ghost use Rattle.std.specs.Prelude.{◌≡◌, ◌≤◌, ◌<◌, ◌≤ℤ◌,
 ghost use Rattle.mix_text.specs.Reading.{begins, bid_of, bid_row_of, each_of, end_of, field_at, format_of, header_of, holds, number_in, numbers_of, value_of, weight_of};
 ghost use Rattle.mix_bids.specs.Offers.{offers_some};
 
-use crate::faults::Code;
+use crate::faults::{Code, Fault, TextError};
 use crate::row::Row;
 use crate::spelling::{Name, read_name, read_number};
 use mix_bids::{Bid, Values};
 use mix_num::Prices;
+
+// The fault of the row with this number.
+pub(crate) fn fault(number: u64, code: Code) -> TextError
+    ensures { result ≡ TextError.Fault (record { at = number; code = code }) }
+{
+    TextError::Fault(Fault { at: number, code })
+}
 
 // The field at a place; an empty one where there is none.
 fn field_or_empty(row: &Row, k: usize) -> &[u8]
@@ -52,11 +59,12 @@ pub(crate) fn read_header(row: &Row) -> Result<u8, Code>
     read_format(field_or_empty(row, 1))
 }
 
-/// Reads the last row of an auction, whose word is known.
+/// Reads the last row of an auction.
 #[tactic(auto, unfolding(crate::specs::Reading::end_of))]
 pub(crate) fn read_end(row: &Row) -> Result<(), Code>
     ensures { result ≡ end_of row.now.fields }
 {
+    unless(row_begins(row, b"end"), Code::Place)?;
     unless(row.len() == 1, Code::Fields)
 }
 

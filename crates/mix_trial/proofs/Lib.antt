@@ -2,6 +2,7 @@ mod PrintedBids
 mod PrintedAuctions
 mod ReadFields
 mod ReadBids
+mod ReadOrders
 mod GatheredBids
 mod ReadAuctions
 mod GeneratorWords

@@ -1,29 +1,32 @@
 -- The text of an auction is its printed rows, and each of them may be printed.
-use Rattle.std.proofs.Common.{◌≡◌, ◌∙◌, sym, ap, refl, ◌&&◌, true, ℕ, ℤ, pos, List, [], ◌∷◌, ◌++◌, append_assoc, map, length, arith, All, Option, Some, None, nat_lt}
+use Rattle.std.proofs.Common.{◌≡◌, ◌∙◌, sym, ap, ap₂, refl, ◌<◌, ◌&&◌, true, inl, inr, ℕ, suc, ℤ, pos, List, [], ◌∷◌, ◌++◌, append_assoc, map, length, arith, All, Option, Some, None, nat_lt}
 use Rattle.std.specs.Prelude.{codes}
 use Rattle.std.specs.Fmt.{signed_decimal}
 use Rattle.std.specs.Int.RustNames.{FitsSigned}
 use mir.Syntax.{w64}
 use Rattle.std.specs.List.{AllPass, list_all}
+use Rattle.std.proofs.lemmas.Bool.{cases_Bool}
 use Rattle.std.proofs.lemmas.Bool.Decides.{nat_tests}
 use Rattle.std.proofs.lemmas.Int.{ints}
-use Rattle.std.proofs.lemmas.List.Elements.{All-cons, All-head, All-nil, All-tail}
+use Rattle.std.proofs.lemmas.List.Elements.{All-cons, All-get_or, All-head, All-nil, All-tail}
 use Rattle.std.proofs.lemmas.List.Folds.{list_all-append}
 use Rattle.mix_num.specs.Sellers.{IsAmount}
 use Rattle.mix_bids.specs.Bids.{AreBids, Book, IsBid}
 use Rattle.mix_bids.specs.Offers.{IsOffer}
 use Rattle.mix_bids.specs.declared.bid.Bid.{Bid}
 use Rattle.mix_text.specs.Auctions.{AuctionText, IsAuction, IsBook}
-use Rattle.mix_text.specs.Bidders.{Named}
+use Rattle.mix_num.specs.Orders.{place_at}
+use Rattle.mix_text.specs.Bidders.{Named, name_at, names_at}
+use Rattle.mix_text.specs.Formats.{has_order}
 use Rattle.mix_text.specs.Pages.{PageText, is_printable, is_printable_row, line_of, printed}
 use Rattle.mix_text.specs.Spelling.{is_name}
 use Rattle.mix_text.proofs.PrintedNumbers.{signed_printable}
 use Rattle.mix_text.proofs.Spellings.{name_printable}
-use Rattle.mix_trial.specs.Printing.{amounts_row, auction_rows, bid_row, bidder_rows, end_row, goods_row, head_row, value_text}
+use Rattle.mix_trial.specs.Printing.{amounts_row, auction_rows, bid_row, bidder_rows, end_row, goods_row, head_row, order_rows, value_text}
 use Rattle.mix_trial.proofs.PrintedBids.{printed-append}
 
-whole_text : (a b c d f g : List ℕ) → ((((a ++ b) ++ c) ++ d) ++ f) ++ g ≡ a ++ (b ++ (c ++ (d ++ (f ++ g))))
-whole_text a b c d f g = simp append_assoc
+whole_text : (a b c d f g h : List ℕ) → (((((a ++ b) ++ c) ++ d) ++ f) ++ g) ++ h ≡ a ++ (b ++ (c ++ (d ++ (f ++ (g ++ h)))))
+whole_text a b c d f g h = simp append_assoc
 
 last_text : (rows : List (List (List ℕ))) (row : List (List ℕ)) → printed rows ++ line_of row ≡ printed (rows ++ (row ∷ []))
 last_text rows row = ap (λ (t : List ℕ). printed rows ++ t) (alone (line_of row)) ∙ sym (printed-append rows (row ∷ []))
@@ -33,7 +36,7 @@ last_text rows row = ap (λ (t : List ℕ). printed rows ++ t) (alone (line_of r
     alone (x ∷ xs) = ap (λ (r : List ℕ). x ∷ r) (alone xs)
 
 -- the pages after each kind of row
-pub auction_pages : (a : AuctionText) (sold least : List ℤ) (start head goods supply reserve bids all : PageText)
+pub auction_pages : (a : AuctionText) (sold least : List ℤ) (start head goods supply reserve bids order all : PageText)
     → sold ≡ a.supply → least ≡ a.reserve
     → start ≡ record { ended = []; fields = [] }
     → head ≡ record { ended = start.ended ++ line_of (head_row a.format); fields = [] }
@@ -41,16 +44,18 @@ pub auction_pages : (a : AuctionText) (sold least : List ℤ) (start head goods 
     → supply ≡ record { ended = goods.ended ++ line_of (amounts_row (codes "supply") sold); fields = [] }
     → reserve ≡ record { ended = supply.ended ++ line_of (amounts_row (codes "reserve") least); fields = [] }
     → bids ≡ record { ended = reserve.ended ++ printed (bidder_rows a.bidders); fields = [] }
-    → all ≡ record { ended = bids.ended ++ line_of end_row; fields = [] }
+    → order ≡ record { ended = bids.ended ++ printed (order_rows a); fields = [] }
+    → all ≡ record { ended = order.ended ++ line_of end_row; fields = [] }
     → all.ended ≡ printed (auction_rows a)
-auction_pages a sold least start head goods supply reserve bids all same at_least s h g p r b e =
+auction_pages a sold least start head goods supply reserve bids order all same at_least s h g p r b o e =
     let before : List ℕ = line_of (head_row a.format) in
     let one : List ℕ = line_of (goods_row a.goods) in
     let two : List ℕ = line_of (amounts_row (codes "supply") a.supply) in
     let three : List ℕ = line_of (amounts_row (codes "reserve") a.reserve) in
-    rw (e, b, r, p, g, h, s, same, at_least) (
-    whole_text before one two three (printed (bidder_rows a.bidders)) (line_of end_row)
-    ∙ ap (λ (t : List ℕ). before ++ (one ++ (two ++ (three ++ t)))) (last_text (bidder_rows a.bidders) end_row)
+    rw (e, o, b, r, p, g, h, s, same, at_least) (
+    whole_text before one two three (printed (bidder_rows a.bidders)) (printed (order_rows a)) (line_of end_row)
+    ∙ ap (λ (t : List ℕ). before ++ (one ++ (two ++ (three ++ (printed (bidder_rows a.bidders) ++ t))))) (last_text (order_rows a) end_row)
+    ∙ ap (λ (t : List ℕ). before ++ (one ++ (two ++ (three ++ t)))) (sym (printed-append (bidder_rows a.bidders) (order_rows a ++ end_row ∷ [])))
     )
 
 -- ---- each row may be printed
@@ -124,6 +129,25 @@ each_name (b ∷ bs) h =
     let names : List (List ℕ) = map (λ bidder. bidder.0) bs in
     All-cons (λ (bidder : List ℕ × Book). is_name bidder.0 ≡ true) b bs (All-head P b.0 names h) (each_name bs (All-tail P b.0 names h))
 
+-- the names of the bidders at these places
+names_at_printable : (bidders : Named) (order : List ℕ) → ((i : ℕ) → i < length order → is_name (name_at bidders (place_at order i)) ≡ true) → list_all is_printable (names_at bidders order) ≡ true
+names_at_printable bidders [] h = refl
+names_at_printable bidders (k ∷ order) h =
+    let first = name_printable (name_at bidders k) (h 0 (omega arith)) in
+    let rest = names_at_printable bidders order (λ i l. h (suc i) (omega (arith, l))) in
+    rw (first, rest) refl
+
+order_printable : (a : AuctionText) → IsAuction a → list_all is_printable_row (order_rows a) ≡ true
+order_printable a is = elim (cases_Bool (has_order a.format)) [
+  | inl t ↦ (
+      let order = is.order in
+      let size = order.size in
+      let names = names_at_printable a.bidders a.order (λ i l. All-get_or (λ (bidder : List ℕ × Book). is_name bidder.0 ≡ true) a.bidders (place_at a.order i) ([], record { goods = 0; bids = [] }) (order.within i (omega (arith, l, size))) (each_name a.bidders is.names.form)) in
+      let row = word_row (codes "order") (names_at a.bidders a.order) refl names in
+      rw t (rw row refl))
+  | inr f ↦ rw f refl
+]
+
 pub auction_printable : (a : AuctionText) → IsAuction a → list_all is_printable_row (auction_rows a) ≡ true
 auction_printable a is =
     let format = is.format in
@@ -132,5 +156,6 @@ auction_printable a is =
     let supply = word_row (codes "supply") (map signed_decimal a.supply) refl (amounts_printable a.supply is.supply.1) in
     let reserve = word_row (codes "reserve") (map signed_decimal a.reserve) refl (amounts_printable a.reserve is.reserve.1) in
     let bids = bidders_printable (length a.goods) a.bidders (each_name a.bidders is.names.form) is.books in
-    let last = list_all-append is_printable_row (bidder_rows a.bidders) (end_row ∷ []) ∙ ap (λ t. t && true) bids in
+    let order = list_all-append is_printable_row (order_rows a) (end_row ∷ []) ∙ ap (λ t. t && true) (order_printable a is) in
+    let last = list_all-append is_printable_row (bidder_rows a.bidders) (order_rows a ++ end_row ∷ []) ∙ ap₂ (λ t u. t && u) bids order in
     rw (head, goods, supply, reserve, last) refl

@@ -1,5 +1,5 @@
 -- The printed rows of an auction that keeps to the limits are read as that auction.
-use Rattle.std.proofs.Common.{◌≡◌, ◌∙◌, sym, ap, refl, ◌<◌, ◌≤◌, ◌+◌, true, false, ℕ, pos, List, [], ◌∷◌, ◌++◌, length, drop, get_or, arith, subst, Result, Ok, nat_lt}
+use Rattle.std.proofs.Common.{◌≡◌, ◌∙◌, sym, ap, ap₂, refl, ◌<◌, ◌≤◌, ◌+◌, true, false, ℕ, pos, List, [], ◌∷◌, ◌++◌, length, drop, get_or, arith, subst, Result, Ok, nat_lt}
 use Rattle.std.specs.Prelude.{codes}
 use Rattle.std.proofs.lemmas.Bool.Decides.{nat_tests}
 use Rattle.std.proofs.lemmas.List.{length-map}
@@ -9,7 +9,7 @@ use Rattle.mix_text.specs.Formats.{limits_of}
 use Rattle.mix_text.specs.Limits.{MeetsLimits}
 use Rattle.mix_text.specs.Names.{AreNames}
 use Rattle.mix_text.specs.Pages.{printed}
-use Rattle.mix_text.specs.Reading.{◌>>=◌, bids_from, goods_at, header_of, numbers_of, read_at, reading_of, row_at}
+use Rattle.mix_text.specs.Reading.{◌>>=◌, bids_from, goods_at, header_of, numbers_of, order_from, read_at, reading_of, row_at}
 use Rattle.mix_text.specs.Rows.{RestText, RowText, numbered, rows_of}
 use Rattle.mix_text.specs.declared.faults.Code.{Code}
 use Rattle.mix_text.specs.declared.faults.TextError.{TextError}
@@ -17,10 +17,11 @@ use Rattle.mix_text.specs.declared.formats.Limits.{Limits}
 use Rattle.mix_text.proofs.Gathering.{Unlike, different_unlike}
 use Rattle.mix_text.proofs.ReadBack.{rows_of-printed}
 use Rattle.mix_text.proofs.Records.{length-numbered}
-use Rattle.mix_trial.specs.Printing.{amounts_row, auction_rows, bidder_rows, end_row, goods_row, head_row}
+use Rattle.mix_trial.specs.Printing.{amounts_row, auction_rows, bidder_rows, end_row, goods_row, head_row, order_rows}
 use Rattle.mix_trial.proofs.GatheredBids.{all_named, bids_of, gathered, names, names_same, rows_same, under_meets}
 use Rattle.mix_trial.proofs.PrintedAuctions.{auction_printable, each_name}
 use Rattle.mix_trial.proofs.ReadBids.{AreFew, bids_read}
+use Rattle.mix_trial.proofs.ReadOrders.{served, tail}
 use Rattle.mix_trial.proofs.ReadFields.{amounts_read, goods_read, head_read, then_is}
 
 row_there : (rows : List RowText) (k : ℕ) (row : RowText) → k < length rows → get_or rows k (record { number = 0; fields = [] }) ≡ row → row_at rows k ≡ Ok row
@@ -46,14 +47,16 @@ few_bids a is meets apart =
     let few = meets.bidders in
     record { names = omega (arith, length-map a.bidders (λ (bidder : List ℕ × Book). bidder.0)); under = under_meets (limits_of a.format) (length a.goods) a.bidders is.books apart meets.lists }
 
-bids_there : (a : AuctionText) (next : ℕ) → IsAuction a → MeetsLimits a → Unlike (names a.bidders)
-    → bids_from (limits_of a.format) (length a.goods) next [] (numbered 5 (bidder_rows a.bidders ++ (end_row ∷ []))) ≡ Ok (bids_of a.bidders, [])
-bids_there a next is meets apart =
+bids_there : (a : AuctionText) → IsAuction a → MeetsLimits a → Unlike (names a.bidders)
+    → bids_from a.format (limits_of a.format) (length a.goods) [] (numbered 5 (bidder_rows a.bidders ++ (order_rows a ++ end_row ∷ []))) ≡ Ok (bids_of a.bidders, numbered (5 + length (bids_of a.bidders)) (order_rows a ++ end_row ∷ []))
+bids_there a is meets apart =
     let limits = limits_of a.format in
     let n = length a.goods in
     let all = all_named n a.bidders (each_name a.bidders is.names.form) is.books in
-    ap (λ (rows : List (List (List ℕ))). bids_from limits n next [] (numbered 5 (rows ++ (end_row ∷ [])))) (sym (rows_same a.bidders))
-    ∙ bids_read limits n next 5 [] (bids_of a.bidders) all (few_bids a is meets apart)
+    let after = tail a in
+    ap₂ (λ (rows last : List (List (List ℕ))). bids_from a.format limits n [] (numbered 5 (rows ++ last))) (sym (rows_same a.bidders)) after.are
+    ∙ bids_read a.format limits n 5 [] (bids_of a.bidders) after.first after.rest after.stops all (few_bids a is meets apart)
+    ∙ ap (λ (last : List (List (List ℕ))). Ok (bids_of a.bidders, numbered (5 + length (bids_of a.bidders)) last)) (sym after.are)
 
 -- reading the rows gives the auction, and no row after it
 pub reading_back : (a : AuctionText) → IsAuction a → MeetsLimits a → reading_of (numbered 1 (auction_rows a)) ≡ Ok (a, record { rows = []; next = length (auction_rows a) + 1 })
@@ -74,13 +77,16 @@ reading_back a is meets =
     read_there rows 2 (record { number = 3; fields = amounts_row (codes "supply") a.supply }) (numbers_of (codes "supply") n (pos 0) (pos 1000000)) a.supply (row_there rows 2 _ (omega arith) refl) supply in
     let three : read_at rows 3 (numbers_of (codes "reserve") n (pos 0) (pos 1000000)) ≡ Ok a.reserve =
     read_there rows 3 (record { number = 4; fields = amounts_row (codes "reserve") a.reserve }) (numbers_of (codes "reserve") n (pos 0) (pos 1000000)) a.reserve (row_there rows 3 _ (omega arith) refl) reserve in
-    let bids : bids_from limits n (length rows + 1) [] (drop 4 rows) ≡ Ok (bids_of a.bidders, []) = bids_there a (length rows + 1) is meets apart in
+    let bids = bids_there a is meets apart in
     let next = length-numbered 1 (auction_rows a) in
     let same = gathered n a.bidders is.books apart in
-    then_is _ _ a.format _ zero (then_is _ _ a.goods _ one (then_is _ _ a.supply _ two (then_is _ _ a.reserve _ three (then_is _ _ (bids_of a.bidders, []) _ bids (last a same (length rows) (length (auction_rows a)) next)))))
+    let after = served a is (5 + length (bids_of a.bidders)) (length rows + 1) in
+    let order = ap (λ (bidders : List (List ℕ × Book)). order_from a.format bidders (numbered (5 + length (bids_of a.bidders)) (order_rows a ++ end_row ∷ []))) same ∙ after.order in
+    then_is _ _ a.format _ zero (then_is _ _ a.goods _ one (then_is _ _ a.supply _ two (then_is _ _ a.reserve _ three (then_is _ _ (bids_of a.bidders, _) _ bids
+    (then_is _ _ (a.order, after.left) _ order (then_is _ _ [] _ after.end (last a same (length rows) (length (auction_rows a)) next)))))))
   where
     last : (a : AuctionText) {bidders : List (List ℕ × Book)} → bidders ≡ a.bidders → (m k : ℕ) → m ≡ k
-        → ◌≡◌ {A = Result (AuctionText × RestText) TextError} (Ok (record { format = a.format; goods = a.goods; supply = a.supply; reserve = a.reserve; bidders = bidders }, record { rows = []; next = m + 1 })) (Ok (a, record { rows = []; next = k + 1 }))
+        → ◌≡◌ {A = Result (AuctionText × RestText) TextError} (Ok (record { format = a.format; goods = a.goods; supply = a.supply; reserve = a.reserve; bidders = bidders; order = a.order }, record { rows = []; next = m + 1 })) (Ok (a, record { rows = []; next = k + 1 }))
     last a same m k e = rw (same, e) refl
 
 -- reading the text gives the auction, and no row after it

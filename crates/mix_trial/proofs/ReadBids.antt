@@ -1,5 +1,5 @@
 -- The rows of bids that pass no limit are read as these bids.
-use Rattle.std.proofs.Common.{◌≡◌, ◌∙◌, sym, ap, refl, ◌<◌, ◌≤◌, ◌+◌, ◌&&◌, Bool, true, false, not, cond, inl, inr, ℕ, suc, List, [], ◌∷◌, ◌++◌, map, filter, length, append_assoc, append-nil, arith, All, Option, None, Some, Ok, true≢false}
+use Rattle.std.proofs.Common.{◌≡◌, ◌∙◌, sym, ap, ap₂, refl, ◌<◌, ◌≤◌, ◌+◌, ◌&&◌, Bool, true, false, not, cond, inl, inr, ℕ, suc, List, [], ◌∷◌, ◌++◌, map, filter, length, append_assoc, append-nil, arith, All, Option, None, Some, Ok, true≢false}
 use Rattle.std.specs.Prelude.{nat_le, count_by}
 use Rattle.std.specs.Str.{bytes_eq}
 use Rattle.std.proofs.lemmas.Bool.{cases_Bool}
@@ -12,10 +12,10 @@ use Rattle.mix_bids.specs.Cells.{cells}
 use Rattle.mix_bids.specs.declared.bid.Bid.{Bid}
 use Rattle.mix_bids.proofs.CellPushes.{cells_rise}
 use Rattle.mix_text.specs.Bidders.{with_bid}
-use Rattle.mix_text.specs.Formats.{is_past}
+use Rattle.mix_text.specs.Formats.{has_order, is_past}
 use Rattle.mix_text.specs.Limits.{BidsMeet}
 use Rattle.mix_text.specs.Names.{different, is_among}
-use Rattle.mix_text.specs.Reading.{NamedBid, bids_from, bids_under, end_of, is_negative, limit_of, list_limit_of, list_under, names_of}
+use Rattle.mix_text.specs.Reading.{NamedBid, bids_from, bids_under, ends_bids, is_negative, limit_of, list_limit_of, list_under, names_of}
 use Rattle.mix_text.specs.Rows.{numbered}
 use Rattle.mix_text.specs.declared.faults.What.{What}
 use Rattle.mix_text.specs.declared.faults.What.TheVariants as what
@@ -24,7 +24,7 @@ use Rattle.mix_text.proofs.FormatLimits.{fewer_past}
 use Rattle.mix_text.proofs.Gathering.{bids_under_snoc, bytes_eq_refl, different_snoc}
 use Rattle.mix_text.proofs.Sound.{IsNamedBid}
 use Rattle.mix_text.proofs.Steps.{bid_more, ends}
-use Rattle.mix_trial.specs.Printing.{bid_row, end_row}
+use Rattle.mix_trial.specs.Printing.{bid_row}
 use Rattle.mix_trial.proofs.ReadFields.{bid_read}
 
 -- the row of a bid under its name
@@ -134,19 +134,30 @@ no_limit limits n before b few =
 
 -- ---- the rows
 
-ends_there : (limits : Limits) (n next k : ℕ) (before : List NamedBid) → bids_from limits n next before (record { number = k; fields = end_row } ∷ []) ≡ Ok (before, [])
-unfolding end_of
-ends_there limits n next k before = ends limits n next before (record { number = k; fields = end_row }) [] refl refl
+-- the row of a bid doesn't end the bids
+no_end : (format : ℕ) (b : NamedBid) → ends_bids format (named_row b) ≡ false
+no_end format b = elim (cases_Bool (has_order format)) [
+  | inl t ↦ rw t refl
+  | inr f ↦ rw f refl
+]
 
--- the rows of bids and the last row, after bids that were read before
-pub bids_read : (limits : Limits) (n next k : ℕ) (before bids : List NamedBid) → All (IsNamedBid n) bids → AreFew limits n (before ++ bids)
-    → bids_from limits n next before (numbered k (map named_row bids ++ (end_row ∷ []))) ≡ Ok (before ++ bids, [])
-bids_read limits n next k before [] are few = ends_there limits n next k before ∙ ap (λ (z : List NamedBid). Ok (z, [])) (sym (append-nil before))
-bids_read limits n next k before (b ∷ bids) are few =
+-- the rows of bids and a row that ends them, after bids that were read before: these bids, and the rows from that row on
+pub bids_read : (format : ℕ) (limits : Limits) (n k : ℕ) (before bids : List NamedBid) (end : List (List ℕ)) (rest : List (List (List ℕ))) → ends_bids format end ≡ true → All (IsNamedBid n) bids → AreFew limits n (before ++ bids)
+    → bids_from format limits n before (numbered k (map named_row bids ++ (end ∷ rest))) ≡ Ok (before ++ bids, numbered (k + length bids) (end ∷ rest))
+bids_read format limits n k before [] end rest stops are few =
+    ends format limits n before (record { number = k; fields = end }) (numbered (k + 1) rest) (sym stops)
+    ∙ ap₂ (λ (z : List NamedBid) (i : ℕ). Ok (z, numbered i (end ∷ rest))) (sym (append-nil before)) (at k)
+  where
+    at : (k : ℕ) → k ≡ k + 0
+    at k = omega arith
+bids_read format limits n k before (b ∷ bids) end rest stops are few =
     let is = All-head (IsNamedBid n) b bids are in
     let regroup = append_assoc before (b ∷ []) bids in
     let few_now = rw (← regroup) at few in
     let none = no_limit limits n before b (fewer limits n (before ++ (b ∷ [])) bids few_now) in
-    bid_more limits n next before (record { number = k; fields = named_row b }) (numbered (k + 1) (map named_row bids ++ (end_row ∷ []))) b refl (bid_read n b.name b.bid is.name is.bid) (sym none)
-    ∙ bids_read limits n next (k + 1) (before ++ (b ∷ [])) bids (All-tail (IsNamedBid n) b bids are) few_now
-    ∙ ap (λ (z : List NamedBid). Ok (z, [])) regroup
+    bid_more format limits n before (record { number = k; fields = named_row b }) (numbered (k + 1) (map named_row bids ++ (end ∷ rest))) b (sym (no_end format b)) (bid_read n b.name b.bid is.name is.bid) (sym none)
+    ∙ bids_read format limits n (k + 1) (before ++ (b ∷ [])) bids end rest stops (All-tail (IsNamedBid n) b bids are) few_now
+    ∙ ap₂ (λ (z : List NamedBid) (i : ℕ). Ok (z, numbered i (end ∷ rest))) regroup (at k (length bids))
+  where
+    at : (k m : ℕ) → k + 1 + m ≡ k + suc m
+    at k m = omega arith

@@ -5,6 +5,7 @@ use Rattle.std.specs.List.{AllPass}
 use Rattle.std.proofs.lemmas.Int.{ints}
 use Rattle.std.proofs.lemmas.List.Elements.{All-append, All-cons, All-nil}
 use Rattle.std.proofs.lemmas.List.Sums.{AllPass-from_list_all, sum_by-append}
+use Rattle.mix_num.specs.Orders.{places}
 use Rattle.mix_num.specs.Sellers.{AreAmounts, IsAmount}
 use Rattle.mix_bids.specs.Bids.{Book}
 use Rattle.mix_bids.specs.declared.bid.Bid.{Bid}
@@ -17,6 +18,7 @@ use Rattle.mix_text.specs.Reading.{is_negative}
 use Rattle.mix_text.specs.Spelling.{is_name}
 use Rattle.mix_text.proofs.FormatLimits.{fewer_past}
 use Rattle.mix_text.proofs.Gathering.{Unlike, different_same}
+use Rattle.mix_text.proofs.TieOrders.{as_they_stand}
 use Rattle.mix_trial.specs.Draws.{alone, for_each}
 use Rattle.mix_trial.specs.Trials.{amount, auction, bid_of, bidder, bidder_name, bids, block, block_bids, good_names, one_value, single, two_values}
 use Rattle.mix_trial.specs.Words.{Words}
@@ -147,6 +149,8 @@ auction_is words =
       names = rw (names_are 40 1 last) forty_names;
       few_bidders = omega arith;
       books = books_are last;
+      order = as_they_stand (length (for_each 40 1 bidder last).0);
+      first_format = λ e. refl;
     }
 
 pub auction_meets : (words : Words) → MeetsLimits (auction words).0
@@ -159,8 +163,8 @@ auction_meets words =
 
 -- ---- what was drawn is the auction of the words
 
-pub auction_drawn : (w0 w1 w2 : Words) (goods : List (List ℕ)) (supply reserve : List ℤ) (bidders : Named)
+pub auction_drawn : (w0 w1 w2 : Words) (goods : List (List ℕ)) (supply reserve : List ℤ) (bidders : Named) (order : List ℕ)
     → goods ≡ good_names → supply ≡ (for_each 5 1 (λ _. alone (amount 100 100)) w0).0 → w1 ≡ (for_each 5 1 (λ _. alone (amount 100 100)) w0).1
-    → reserve ≡ (for_each 5 1 (λ _. alone (amount 0 100)) w1).0 → w2 ≡ (for_each 5 1 (λ _. alone (amount 0 100)) w1).1 → bidders ≡ (for_each 40 1 bidder w2).0
-    → ◌≡◌ {A = AuctionText} (record { format = 1; goods = goods; supply = supply; reserve = reserve; bidders = bidders }) (auction w0).0
-auction_drawn w0 w1 w2 goods supply reserve bidders g s e r f b = rw (g, s, b, f, r, e) refl
+    → reserve ≡ (for_each 5 1 (λ _. alone (amount 0 100)) w1).0 → w2 ≡ (for_each 5 1 (λ _. alone (amount 0 100)) w1).1 → bidders ≡ (for_each 40 1 bidder w2).0 → order ≡ places (length bidders)
+    → ◌≡◌ {A = AuctionText} (record { format = 1; goods = goods; supply = supply; reserve = reserve; bidders = bidders; order = order }) (auction w0).0
+auction_drawn w0 w1 w2 goods supply reserve bidders order g s e r f b o = rw (o, g, s, b, f, r, e) refl

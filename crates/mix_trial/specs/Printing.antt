@@ -1,9 +1,10 @@
 -- The text of an auction, row by row, the bids of each bidder together.
-use Rattle.std.specs.Prelude.{ℕ, List, [], ◌∷◌, ◌++◌, ℤ, pos, Option, Some, None, map, codes}
+use Rattle.std.specs.Prelude.{ℕ, List, [], ◌∷◌, ◌++◌, ℤ, pos, Option, Some, None, map, codes, if◌then◌else◌}
 use Rattle.std.specs.Fmt.{signed_decimal}
 use Rattle.mix_bids.specs.declared.bid.Bid.{Bid}
 use Rattle.mix_text.specs.Auctions.{AuctionText}
-use Rattle.mix_text.specs.Bidders.{Named}
+use Rattle.mix_text.specs.Bidders.{Named, names_at}
+use Rattle.mix_text.specs.Formats.{has_order}
 
 -- the first row: `mix`, and the format
 abbrev pub head_row : ℕ → List (List ℕ)
@@ -31,6 +32,14 @@ abbrev pub bidder_rows : Named → List (List (List ℕ))
 bidder_rows [] = []
 bidder_rows (bidder ∷ rest) = map (bid_row bidder.0) bidder.1.bids ++ bidder_rows rest
 
+-- the row of the tie order: the names of the bidders in it
+abbrev pub order_row : Named → List ℕ → List (List ℕ)
+order_row bidders order = codes "order" ∷ names_at bidders order
+
+-- this row, where the format may state the order
+abbrev pub order_rows : AuctionText → List (List (List ℕ))
+order_rows a = if has_order a.format then order_row a.bidders a.order ∷ [] else []
+
 -- the last row
 abbrev pub end_row : List (List ℕ)
 end_row = codes "end" ∷ []
@@ -39,4 +48,4 @@ end_row = codes "end" ∷ []
 abbrev pub auction_rows : AuctionText → List (List (List ℕ))
 auction_rows a =
     head_row a.format ∷ goods_row a.goods ∷ amounts_row (codes "supply") a.supply ∷ amounts_row (codes "reserve") a.reserve
-    ∷ (bidder_rows a.bidders ++ end_row ∷ [])
+    ∷ (bidder_rows a.bidders ++ (order_rows a ++ end_row ∷ []))

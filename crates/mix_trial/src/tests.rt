@@ -25,6 +25,32 @@ fn texts(rt: HostRuntime) -> Result<(), Fail> {
     Ok(())
 }
 
+// The tie order is stated in format 2, also where the text that was read leaves it out.
+#[test]
+fn orders(rt: HostRuntime) -> Result<(), Fail> {
+    let alloc = rt.alloc();
+    let cases: [(&[u8], &[u8]); 2] = [
+        (
+            b"mix,2\ngoods,A\nsupply,1\nreserve,0\nbid,P,1,5\nbid,Q,1,5\norder,Q,P\nend\n",
+            b"mix,2\ngoods,A\nsupply,1\nreserve,0\nbid,P,1,5\nbid,Q,1,5\norder,Q,P\nend\n",
+        ),
+        (
+            b"mix,2\ngoods,A\nsupply,1\nreserve,0\nbid,P,1,5\nbid,Q,1,5\nend\n",
+            b"mix,2\ngoods,A\nsupply,1\nreserve,0\nbid,P,1,5\nbid,Q,1,5\norder,P,Q\nend\n",
+        ),
+    ];
+    for (given, wanted) in cases {
+        if given.len() > 1000 {
+            return Err("a short text".into());
+        }
+        let (auction, rest) = read_auction(alloc, given)?;
+        no_rest(&rest)?;
+        let text = print_auction(alloc, &auction).ok().ok_or("a text")?;
+        assert_eq!(rt; text.as_slice(), wanted);
+    }
+    Ok(())
+}
+
 // The text of the trial auction of a number.
 fn trial_text(alloc: Global, seed: u64) -> Option<Vec<u8>> {
     let auction = make(alloc, seed).ok()?;
