@@ -3,13 +3,10 @@ use Rattle.std.proofs.Common.{◌≡◌, ℕ, suc, ◌<◌, ℤ, pos, ◌≤ℤ�
 use Rattle.std.proofs.lemmas.Int.{ints}
 use Rattle.std.proofs.lemmas.List.{get_or-map, length-map}
 use Rattle.std.proofs.lemmas.List.Elements.{All-get_or}
-use Rattle.std.proofs.lemmas.List.FromFn.{get_or-range_with_len, length-range_with_len}
-use Rattle.std.proofs.lemmas.List.Sorted.{IsPermutation-refl}
 use Rattle.mix_num.specs.Vectors.{Vector}
 use Rattle.mix_num.specs.Sellers.{AreAmounts}
 use Rattle.mix_num.specs.Shares.{sum_at}
-use Rattle.mix_num.specs.Orders.{IsOrder, in_order, place_at}
-use Rattle.mix_num.proofs.Orders.{in-places}
+use Rattle.mix_num.specs.Orders.{IsOrder}
 use Rattle.mix_law.specs.Members.{KeepsLaws}
 use Rattle.mix_clearing.specs.Clearings.{bidder_utility}
 use Rattle.mix_clearing.specs.Utilities.{KeepLaws}
@@ -17,27 +14,18 @@ use Rattle.mix_bids.specs.Bids.{Book, utility}
 use Rattle.mix_validity.proofs.ListLaws.{list_keeps_laws}
 use Rattle.mix_text.specs.Auctions.{AuctionText, IsAuction, IsBook}
 use Rattle.mix_text.specs.Bidders.{list_at}
+use Rattle.mix_text.proofs.TieOrders.{is_order}
 use Rattle.mix_answer.specs.Refusals.{AreConvex}
 use Rattle.mix_answer.specs.Shapes.{HasAnswerShape, IsShare}
-use Rattle.mix_answer.specs.Truths.{bundles_of, order_of}
+use Rattle.mix_answer.specs.Truths.{bundles_of}
 use Rattle.mix_answer.specs.Utilities.{utilities_of}
 use Rattle.mix_answer.specs.declared.outcome.Answer.{Answer}
 use Rattle.mix_answer.specs.declared.share.Share.{Share}
 use Rattle.mix_check.specs.Reasons.{bundle_of, payment_of}
 
 -- ---- orders
-pub order-ordered : (a : AuctionText) → IsOrder (length (utilities_of a.bidders)) (order_of a)
-order-ordered a = subst (λ (m : ℕ). IsOrder m (order_of a)) (sym (length-map a.bidders (λ (bidder : List ℕ × Book). utility bidder.1.bids))) (IsPermutation-refl (order_of a))
-
-pub length-order_of : (a : AuctionText) → length (order_of a) ≡ length a.bidders
-length-order_of a = length-range_with_len 0 (length a.bidders)
-
--- the bidders are served as they stand
-pub served : (a : AuctionText) (k : ℕ) → k < length a.bidders → place_at (order_of a) k ≡ k
-served a k l = let e = get_or-range_with_len 0 (length a.bidders) k 0 l in omega (arith, e)
-
-pub in-order_of : (a : AuctionText) (lists : List (List ℤ)) → length lists ≡ length a.bidders → in_order (order_of a) lists ≡ lists
-in-order_of a lists e = sym (in-places lists [] (length a.bidders) e)
+pub order-ordered : (a : AuctionText) → IsAuction a → IsOrder (length (utilities_of a.bidders)) a.order
+order-ordered a sound = subst (λ (m : ℕ). IsOrder m a.order) (sym (length-map a.bidders (λ (bidder : List ℕ × Book). utility bidder.1.bids))) (is_order (length a.bidders) a.order sound.order)
 
 -- ---- bidders
 pub book_at : (a : AuctionText) → IsAuction a → (k : ℕ) → k < length a.bidders → IsBook (length a.goods) (list_at a.bidders k)

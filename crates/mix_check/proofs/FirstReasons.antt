@@ -1,21 +1,20 @@
 -- The first reason why an outcome isn't true, where the tests before it pass.
-use Rattle.std.proofs.Common.{◌≡◌, ◌≢◌, ◌<◌, ◌⊎◌, ℕ, suc, ℤ, pos, [], ◌∷◌, length, get_or, subst, arith, ⊎_elim}
+use Rattle.std.proofs.Common.{◌≡◌, ◌≢◌, ◌<◌, ℕ, ℤ, pos, [], ◌∷◌, length, get_or, arith}
 use Rattle.std.proofs.lemmas.Int.{ints}
 use Rattle.mix_num.specs.Vectors.{with_null}
-use Rattle.mix_num.specs.Pairs.{IsPair}
+use Rattle.mix_num.specs.Sums.{dot_of}
 use Rattle.mix_law.specs.Demands.{IsDemanded}
 use Rattle.mix_market.specs.Lyapunov.{lyapunov}
 use Rattle.mix_clearing.specs.Clearings.{bidder_utility}
 use Rattle.mix_text.specs.Auctions.{AuctionText}
-use Rattle.mix_answer.specs.Truths.{pair_of}
 use Rattle.mix_answer.specs.Utilities.{utilities_of}
 use Rattle.mix_answer.specs.declared.outcome.Answer.{Answer}
 use Rattle.mix_answer.specs.declared.outcome.Outcome.{Outcome}
 use Rattle.mix_answer.specs.declared.outcome.Outcome.TheVariants.{Cleared, Refused}
 use Rattle.mix_answer.specs.declared.refusal.Refusal.{Refusal}
-use Rattle.mix_check.specs.declared.reason.Reason.TheVariants.{Demand, Earlier, Lower, Sum, Tight}
-use Rattle.mix_check.specs.Reasons.{FallsFreely, IsNotTight, IsOverDemand, bundle_of, sum_of_good, weight_of}
-use Rattle.mix_check.specs.Orders.{IsBefore, IsFirstReason, NoneBefore}
+use Rattle.mix_check.specs.declared.reason.Reason.TheVariants.{Demand, Earlier, Lower, Pay, Sum}
+use Rattle.mix_check.specs.Reasons.{FallsFreely, IsOverDemand, bundle_of, payment_of, sum_of_good, weight_of}
+use Rattle.mix_check.specs.Orders.{IsFirstReason, NoneBefore}
 use Rattle.mix_check.specs.Tests.{IsFirstInvalid}
 
 -- the weight is the facet weight, and a bidder before the refused one isn't convex
@@ -44,26 +43,6 @@ module _ (a : AuctionText) (answer : Answer) where
   pub fall_first : (set : ℕ) → NoneBefore a outcome (7 ∷ []) → Falls set → ((s : ℕ) → s < set → ¬ Falls s) → IsFirstReason a outcome (Lower set)
   fall_first set none falls before = record { holds = falls; first = grind (arith, ints) }
 
-  abbrev Paired : ℕ → ℕ → Type 0
-  Paired k j = IsPair (length a.goods) j (pair_of (length a.goods) answer k j).upper (pair_of (length a.goods) answer k j).lower
-
-  -- the sets are a pair
-  pair_passed : (k j : ℕ) → NoneBefore a outcome (9 ∷ k ∷ j ∷ []) → Paired k j → NoneBefore a outcome (9 ∷ k ∷ j ∷ 1 ∷ [])
-  pair_passed k j none right = grind (arith, ints)
-
-  pub number_first : (k j : ℕ) (bound : ℤ) → NoneBefore a outcome (9 ∷ k ∷ j ∷ []) → Paired k j → k < length a.bidders → j < length a.goods → IsNotTight a answer k j bound → IsFirstReason a outcome (Tight k j bound)
-  number_first k j bound none pair l h wrong = record { holds = (l, h, wrong); first = pair_passed k j none pair }
-
-  -- and their number is what the bidder has
-  next-after : (i g k j : ℕ) → IsBefore (9 ∷ i ∷ g ∷ 1 ∷ []) (9 ∷ k ∷ suc j ∷ []) → IsBefore (9 ∷ i ∷ g ∷ 1 ∷ []) (9 ∷ k ∷ j ∷ 1 ∷ []) ⊎ ((i ≡ k) × (g ≡ j))
-  next-after i g k j b = grind (arith, ints)
-
-  none-after : (k j : ℕ) → NoneBefore a outcome (9 ∷ k ∷ j ∷ 1 ∷ []) → ((bound : ℤ) → ¬ IsNotTight a answer k j bound) → NoneBefore a outcome (9 ∷ k ∷ suc j ∷ [])
-  none-after k j none right (Tight i g bound) b holds = ⊎_elim
-      (λ (sooner : IsBefore (9 ∷ i ∷ g ∷ 1 ∷ []) (9 ∷ k ∷ j ∷ 1 ∷ [])). none (Tight i g bound) sooner holds)
-      (λ (e : (i ≡ k) × (g ≡ j)). right bound (subst (λ (v : ℕ). IsNotTight a answer k v bound) e.1 (subst (λ (v : ℕ). IsNotTight a answer v g bound) e.0 holds.2)))
-      (next-after i g k j b)
-  none-after k j none right other b holds = none other (grind (arith, ints)) holds
-
-  pub number_passed : (k j : ℕ) → NoneBefore a outcome (9 ∷ k ∷ j ∷ []) → Paired k j → ((bound : ℤ) → ¬ IsNotTight a answer k j bound) → NoneBefore a outcome (9 ∷ k ∷ suc j ∷ [])
-  number_passed k j none pair right = none-after k j (pair_passed k j none pair) right
+  pub pay_first : (k : ℕ) (amount : ℤ) → NoneBefore a outcome (8 ∷ []) → k < length a.bidders → amount ≡ dot_of answer.prices.items (bundle_of answer k) → payment_of answer k ≢ amount
+      → ((j : ℕ) → j < k → payment_of answer j ≡ dot_of answer.prices.items (bundle_of answer j)) → IsFirstReason a outcome (Pay k amount)
+  pay_first k amount none l is other before = record { holds = (l, is, other); first = grind (arith, ints) }

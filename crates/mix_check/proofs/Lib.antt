@@ -5,6 +5,7 @@ mod WordSums
 mod TableSums
 mod Spares
 mod PairNumbers
+pub mod FirstFailures
 mod FreeFalls
 mod DemandTests
 pub mod VerdictFacts

@@ -10,7 +10,8 @@ use Rattle.mix_num.specs.Vectors.{Vector, Choices, bit, dot_to, members, minus, 
 use Rattle.mix_num.specs.Sums.{sum_in, total}
 use Rattle.mix_num.specs.Shares.{sum_at, supply_null}
 use Rattle.mix_num.specs.Tables.{IsProper, null_share, number_of, whole}
-use Rattle.mix_num.proofs.Orders.{sum-append}
+use Rattle.mix_num.specs.Orders.{IsOrder, in_order}
+use Rattle.mix_num.proofs.Orders.{sum-append, sum-ordered}
 use Rattle.mix_num.proofs.Costs.{dot_plus, dot_same}
 use Rattle.mix_law.specs.Demands.{IsTableOf}
 use Rattle.mix_law.specs.Members.{rho}
@@ -59,15 +60,21 @@ sums-range n tables have set l =
     let few = have.few in
     (omega (arith, ints, sums.0, is), omega (arith, ints, sums.1, is, few), own.0, own.1)
 
--- all rows together
-pub rows-sum : (n : ℕ) (tables : Tables) → HaveSums n tables → (set : ℕ) → set < 2 ^ suc n → sum_at (rows_of tables) set ≡ number_of tables.sum set +ℤ number_of tables.seller set
-rows-sum n tables have set l = let a = sum-append tables.bidders.items tables.seller set in let b = have.sums set l in omega (arith, ints, a, b)
+-- all rows together, in any order of the bidders
+pub rows-sum : (n : ℕ) (tables : Tables) (order : List ℕ) → IsOrder (length tables.bidders.items) order → HaveSums n tables → (set : ℕ) → set < 2 ^ suc n
+    → sum_at (rows_of order tables) set ≡ number_of tables.sum set +ℤ number_of tables.seller set
+rows-sum n tables order ordered have set l =
+    let a = sum-append (in_order order tables.bidders.items) tables.seller set in
+    let b = have.sums set l in
+    let c = sum-ordered tables.bidders.items set (length tables.bidders.items) order refl ordered in
+    omega (arith, ints, a, b, c)
 
 -- the null share of the supply
-pub null-is : (n : ℕ) (tables : Tables) (supply : List ℤ) (all : ℕ) → HaveSums n tables → all ≡ whole n → (number_of tables.sum all +ℤ number_of tables.seller all) -ℤ total supply ≡ supply_null n (rows_of tables) supply
-null-is n tables supply all have e =
+pub null-is : (n : ℕ) (tables : Tables) (order : List ℕ) → IsOrder (length tables.bidders.items) order → (supply : List ℤ) (all : ℕ) → HaveSums n tables → all ≡ whole n
+    → (number_of tables.sum all +ℤ number_of tables.seller all) -ℤ total supply ≡ supply_null n (rows_of order tables) supply
+null-is n tables order ordered supply all have e =
     let some = pow_pos (suc n) in
-    let a = rows-sum n tables have (whole n) (omega (arith, some)) in
+    let a = rows-sum n tables order ordered have (whole n) (omega (arith, some)) in
     let b = ap (λ (m : ℕ). number_of tables.sum m +ℤ number_of tables.seller m) e in
     omega (arith, ints, a, b)
 
@@ -90,12 +97,12 @@ module _ (n : ℕ) (tables : Tables) (have : HaveSums n tables) (len all : ℕ) 
   pub all-lies : Lies 2056000000 (to_z w64 (of_z w64 (to_z w64 (of_z w64 s) +ℤ to_z w64 (of_z w64 t))))
   all-lies = let p = parts in let e = number in (omega (arith, ints, p.0, p.2, e), omega (arith, ints, p.1, p.3, e))
 
-  pub null-same : (supply : List ℤ) (null : ℤ) → null ≡ to_z w64 (of_z w64 (to_z w64 (of_z w64 s) +ℤ to_z w64 (of_z w64 t))) -ℤ total supply → Lies 2120000000 null
-      → to_z w64 (of_z w64 null) ≡ supply_null n (rows_of tables) supply
-  null-same supply null e l =
+  pub null-same : (order : List ℕ) → IsOrder (length tables.bidders.items) order → (supply : List ℤ) (null : ℤ) → null ≡ to_z w64 (of_z w64 (to_z w64 (of_z w64 s) +ℤ to_z w64 (of_z w64 t))) -ℤ total supply → Lies 2120000000 null
+      → to_z w64 (of_z w64 null) ≡ supply_null n (rows_of order tables) supply
+  null-same order ordered supply null e l =
       word-same null (lies-wider 2120000000 4000000000000 null (lit≤ tt) l)
       ∙ e ∙ ap (λ (v : ℤ). v -ℤ total supply) (number ∙ ap₂ (λ (v u : ℤ). v +ℤ u) is_sum is_seller)
-      ∙ null-is n tables supply all have whole-is
+      ∙ null-is n tables order ordered supply all have whole-is
 
 -- a bidder's number of the whole set, and the null share of its bundle
 module _ (n : ℕ) (table : List ℤ) (proper : IsProper n table) (len all : ℕ) (s : ℤ) (long : len ≡ n) (is_all : all ≡ 2 ^ (len + 1) - 1) (is : s ≡ number_of table all) where

@@ -8,7 +8,7 @@ use Rattle.mix_num.specs.Sums.{dot_of}
 use Rattle.mix_num.specs.Orders.{in_order, place_at}
 use Rattle.mix_num.specs.Pairs.{IsPair, IsTightOf}
 use Rattle.mix_num.specs.declared.pair.Tight.{Tight as TightPair}
-use Rattle.mix_num.proofs.Orders.{get-in_order}
+use Rattle.mix_num.proofs.Orders.{all-where_in_order, get-in_order}
 use Rattle.mix_law.specs.Demands.{IsDemanded}
 use Rattle.mix_market.specs.Lyapunov.{lyapunov}
 use Rattle.mix_clearing.specs.Certificates.{tables_at}
@@ -22,9 +22,10 @@ use Rattle.mix_bids.proofs.Lengths.{over_of}
 use Rattle.mix_validity.proofs.ConvexLists.{convex_exactly}
 use Rattle.mix_text.specs.Auctions.{AuctionText, IsAuction}
 use Rattle.mix_text.specs.Bidders.{list_at}
+use Rattle.mix_text.proofs.TieOrders.{is_order}
 use Rattle.mix_answer.specs.Refusals.{AreConvex, AreConvexBefore, IsTrueRefusal}
 use Rattle.mix_answer.specs.Shapes.{FitsAuction, HasAnswerShape}
-use Rattle.mix_answer.specs.Truths.{HaveTights, IsTrueAnswer, bundles_of, order_of, pair_of}
+use Rattle.mix_answer.specs.Truths.{HaveTights, IsTrueAnswer, bundles_of, pair_of}
 use Rattle.mix_answer.specs.Utilities.{utilities_of}
 use Rattle.mix_answer.specs.declared.outcome.Answer.{Answer}
 use Rattle.mix_answer.specs.declared.refusal.Refusal.{Refusal}
@@ -33,7 +34,7 @@ use Rattle.mix_check.specs.declared.reason.Reason.{Reason}
 use Rattle.mix_check.specs.declared.reason.Reason.TheVariants.{Demand, Earlier, Facet, Floor, Invalid, Lower, Pair, Pay, Return, Sum, Tight}
 use Rattle.mix_check.specs.Reasons.{HoldsOfAnswer, HoldsOfRefusal, IsNotTight, bundle_of, weight_of}
 use Rattle.mix_check.specs.Tests.{AddUp, AreAboveReserves, AreDemanded, ArePaid, AreReturnedAtReserves, Rises}
-use Rattle.mix_check.proofs.AuctionFacts.{book_at, bundle-amounts, bundle-at, given_some, laws, length-bundles, length-order_of, length-utilities, order-ordered, payment-at, served, stocked}
+use Rattle.mix_check.proofs.AuctionFacts.{book_at, bundle-amounts, bundle-at, given_some, laws, length-bundles, length-utilities, order-ordered, payment-at, stocked}
 
 -- a reason against a refusal
 pub refusal_untrue : (a : AuctionText) (r : Refusal) (reason : Reason) → HoldsOfRefusal a r reason → ¬ IsTrueRefusal a.bidders r
@@ -89,15 +90,15 @@ module _ (a : AuctionText) (answer : Answer) (sound : IsAuction a) (shape : HasA
 
   -- the pair of a bidder at its turn
   tight-where_true : IsTrueAnswer a answer → (turn j : ℕ) → turn < length a.bidders → j < length a.goods
-      → let pair = pair_of (length a.goods) answer (place_at (order_of a) turn) j in
-      IsTightOf (length a.goods) (tables_at utilities a.supply a.reserve answer.prices.items (order_of a)) a.supply (in_order (order_of a) (bundles_of answer)) turn j pair.upper pair.lower
+      → let pair = pair_of (length a.goods) answer (place_at a.order turn) j in
+      IsTightOf (length a.goods) (tables_at utilities a.supply a.reserve answer.prices.items a.order) a.supply (in_order a.order (bundles_of answer)) turn j pair.upper pair.lower
   tight-where_true true turn j l h =
-      let pair : TightPair = pair_of (length a.goods) answer (place_at (order_of a) turn) j in
-      subst (λ (n : ℕ). IsTightOf n (tables_at utilities a.supply a.reserve answer.prices.items (order_of a)) a.supply (in_order (order_of a) (bundles_of answer)) turn j pair.upper pair.lower)
+      let pair : TightPair = pair_of (length a.goods) answer (place_at a.order turn) j in
+      subst (λ (n : ℕ). IsTightOf n (tables_at utilities a.supply a.reserve answer.prices.items a.order) a.supply (in_order a.order (bundles_of answer)) turn j pair.upper pair.lower)
       goods (true.tights turn j l h)
 
-  pub bundle-in_turn : (turn k : ℕ) → turn < length (order_of a) → place_at (order_of a) turn ≡ k → get_or (in_order (order_of a) (bundles_of answer)) turn [] ≡ bundle_of answer k
-  bundle-in_turn turn k l e = get-in_order (bundles_of answer) (order_of a) turn l ∙ ap (λ (i : ℕ). bundle_of answer i) e
+  pub bundle-in_turn : (turn k : ℕ) → turn < length a.order → place_at a.order turn ≡ k → get_or (in_order a.order (bundles_of answer)) turn [] ≡ bundle_of answer k
+  bundle-in_turn turn k l e = get-in_order (bundles_of answer) a.order turn l ∙ ap (λ (i : ℕ). bundle_of answer i) e
 
   -- a reason against an answer
   pub answer_untrue : (reason : Reason) → HoldsOfAnswer a answer reason → ¬ IsTrueAnswer a answer
@@ -121,11 +122,12 @@ module _ (a : AuctionText) (answer : Answer) (sound : IsAuction a) (shape : HasA
       let right = All-get_or (λ (share : Share). share.payment ≡ dot_of answer.prices.items share.bundle.items) answer.shares k d (omega (arith, holds.0, count)) true.payments in
       holds.2 (payment-at a answer shape k d holds.0 ∙ right ∙ ap (λ (b : List ℤ). dot_of answer.prices.items b) (sym (bundle-at a answer shape k d holds.0)) ∙ sym holds.1)
   answer_untrue (Pair k j) holds true =
-      let tight = tight-where_true true k j holds.0 holds.1 in
-      holds.2 (subst (λ (i : ℕ). IsPair (length a.goods) j (pair_of (length a.goods) answer i j).upper (pair_of (length a.goods) answer i j).lower) (served a k holds.0) tight.pair)
+      let size = sound.order.size in
+      let Paired : ℕ → Type 0 = λ i. IsPair (length a.goods) j (pair_of (length a.goods) answer i j).upper (pair_of (length a.goods) answer i j).lower in
+      holds.2 (all-where_in_order Paired (length a.bidders) a.order (is_order (length a.bidders) a.order sound.order) (λ turn l. (tight-where_true true turn j (omega (arith, l, size)) holds.1).pair) k holds.0)
   answer_untrue (Tight k j bound) holds true =
       let wrong : IsNotTight a answer k j bound = holds.2 in
-      let few = length-order_of a in
+      let few = sound.order.size in
       let inside = wrong.within in
       let tight = tight-where_true true wrong.turn j (omega (arith, inside, few)) holds.1 in
       wrong.other (wrong.number ∙ tight.number ∙ ap (λ (b : List ℤ). get_or b j (pos 0)) (bundle-in_turn wrong.turn k wrong.within wrong.served))
@@ -153,12 +155,12 @@ module _ (a : AuctionText) (answer : Answer) (sound : IsAuction a) (shape : HasA
       → IsTrueAnswer a answer
   true_answer convex above sums at demanded rises paid tights = record {
     convex = convex;
-    solution = checked_outcome utilities a.supply a.reserve answer.prices.items (order_of a) (bundles_of answer) answer.returns.items (laws a sound convex) (order-ordered a) (stocked a sound)
+    solution = checked_outcome utilities a.supply a.reserve answer.prices.items a.order (bundles_of answer) answer.returns.items (laws a sound convex) (order-ordered a sound) (stocked a sound)
         (clears above sums at demanded)
         (subst (λ (n : ℕ). RisesWhereFallen n (lyapunov utilities a.supply) (with_null a.reserve) (with_null answer.prices.items)) (sym goods) rises)
         (λ k j l h.
-        let few = length-order_of a in
-        let pair : TightPair = pair_of (length a.goods) answer (place_at (order_of a) k) j in
+        let few = sound.order.size in
+        let pair : TightPair = pair_of (length a.goods) answer (place_at a.order k) j in
         (pair.upper, pair.lower, tights k j (omega (arith, l, few)) (omega (arith, h, goods))));
     payments = All-from_get_or (λ (share : Share). share.payment ≡ dot_of answer.prices.items share.bundle.items) answer.shares no_share
         (λ k l.

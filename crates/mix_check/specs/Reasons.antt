@@ -15,7 +15,7 @@ use Rattle.mix_bids.specs.Bids.{facet_weight}
 use Rattle.mix_bids.specs.Convexity.{IsConvexList}
 use Rattle.mix_text.specs.Auctions.{AuctionText}
 use Rattle.mix_text.specs.Bidders.{list_at}
-use Rattle.mix_answer.specs.Truths.{bundles_of, order_of, pair_of}
+use Rattle.mix_answer.specs.Truths.{bundles_of, pair_of}
 use Rattle.mix_answer.specs.Utilities.{utilities_of}
 use Rattle.mix_answer.specs.declared.outcome.Answer.{Answer}
 use Rattle.mix_answer.specs.declared.outcome.Outcome.{Outcome}
@@ -55,16 +55,16 @@ pub record FallsFreely (n : ℕ) (l : Vector → ℤ) (start p : Vector) (set : 
 -- the number of the pair of a bidder, at its turn in the order, and of a good
 abbrev pub number_at : AuctionText → Answer → ℕ → ℕ → ℤ
 number_at a answer turn j =
-    let tables = tables_at (utilities_of a.bidders) a.supply a.reserve answer.prices.items (order_of a) in
-    let bundles = in_order (order_of a) (bundles_of answer) in
-    let pair = pair_of (length a.goods) answer (place_at (order_of a) turn) j in
+    let tables = tables_at (utilities_of a.bidders) a.supply a.reserve answer.prices.items a.order in
+    let bundles = in_order a.order (bundles_of answer) in
+    let pair = pair_of (length a.goods) answer (place_at a.order turn) j in
     pair_number j (get_or tables turn []) (floor_at (length a.goods) tables a.supply bundles turn) (get_or bundles turn []) pair.upper pair.lower
 
 -- the number of the pair of a bidder and a good is the bound, which isn't what the bidder has of the good
 pub record IsNotTight (a : AuctionText) (answer : Answer) (k j : ℕ) (bound : ℤ) : Type 0 where
   pub turn : ℕ
-  pub within : turn < length (order_of a)
-  pub served : place_at (order_of a) turn ≡ k
+  pub within : turn < length a.order
+  pub served : place_at a.order turn ≡ k
   pub number : bound ≡ number_at a answer turn j
   pub other : bound ≢ get_or (bundle_of answer k) j (pos 0)
 

@@ -1,12 +1,12 @@
 -- What the checker's tests show of an answer that passes them, and what its tables are. For proofs; no public clause rests on it.
-use Rattle.std.specs.Prelude.{◌≡◌, ◌<◌, ◌^◌, ◌≤◌, ◌<ℤ◌, ◌≤ℤ◌, ◌-ℤ◌, ℕ, suc, ℤ, pos, List, [], ◌∷◌, ◌++◌, length, get_or, drop}
+use Rattle.std.specs.Prelude.{◌≡◌, ◌<◌, ◌^◌, ◌≤◌, ◌<ℤ◌, ◌≤ℤ◌, ◌-ℤ◌, ℕ, suc, ℤ, pos, List, [], ◌∷◌, ◌++◌, length, get_or, drop, Option, Some, None}
 use Rattle.mix_num.specs.Vectors.{with_null}
 use Rattle.mix_num.specs.Sellers.{seller_gain}
 use Rattle.mix_num.specs.Sums.{dot_of}
 use Rattle.mix_num.specs.Shares.{sum_at}
 use Rattle.mix_num.specs.Tables.{IsProper, number_of}
 use Rattle.mix_num.specs.Orders.{in_order, place_at}
-use Rattle.mix_num.specs.Pairs.{floor_at, left_at}
+use Rattle.mix_num.specs.Pairs.{IsPair, floor_at, left_at}
 use Rattle.mix_num.specs.Ranges.{Lies}
 use Rattle.mix_law.specs.Demands.{IsDemanded, IsTableOf}
 use Rattle.mix_market.specs.Lyapunov.{lyapunov}
@@ -17,13 +17,16 @@ use Rattle.mix_bids.specs.Convexity.{IsConvexList}
 use Rattle.mix_text.specs.Auctions.{AuctionText}
 use Rattle.mix_text.specs.Bidders.{list_at}
 use Rattle.mix_answer.specs.Refusals.{AreConvex, AreConvexBefore}
-use Rattle.mix_answer.specs.Truths.{bundles_of, order_of, pair_of}
+use Rattle.mix_answer.specs.Truths.{bundles_of, pair_of}
 use Rattle.mix_answer.specs.Utilities.{utilities_of}
 use Rattle.mix_answer.specs.declared.outcome.Answer.{Answer}
 use Rattle.mix_check.specs.declared.tables.Taken.{Taken}
 use Rattle.mix_check.specs.declared.tables.Taken.TheVariants.{Invalid, Tables as TablesOf}
 use Rattle.mix_check.specs.declared.tables.Tables.{Tables}
-use Rattle.mix_check.specs.Reasons.{bundle_of, payment_of, sum_of_good}
+use Rattle.mix_check.specs.declared.pairs.Failure.{Failure}
+use Rattle.mix_check.specs.declared.reason.Reason.{Reason}
+use Rattle.mix_check.specs.declared.reason.Reason.TheVariants.{Pair, Tight}
+use Rattle.mix_check.specs.Reasons.{HoldsOfAnswer, bundle_of, payment_of, sum_of_good}
 
 -- of some bidders the first whose list isn't convex
 pub record IsFirstInvalid (a : AuctionText) (count k : ℕ) : Type 0 where
@@ -66,11 +69,11 @@ abbrev pub IsTaken : AuctionText → List ℤ → Taken → Type 0
 IsTaken a prices (TablesOf tables) = AreConvex a.bidders × AreTablesOfFirst a prices (length a.bidders) tables.items
 IsTaken a prices (Invalid k) = IsFirstInvalid a (length a.bidders) k
 
--- all tables in order, the seller's last
-abbrev pub rows_of : Tables → List (List ℤ)
-rows_of tables = tables.bidders.items ++ tables.seller ∷ []
+-- all tables, the bidders' in an order and the seller's last
+abbrev pub rows_of : List ℕ → Tables → List (List ℤ)
+rows_of order tables = in_order order tables.bidders.items ++ tables.seller ∷ []
 
--- what is left of the supply at a set once the bidders before the k-th have their bundles, less all that the members from it on can take
+-- what is left of the supply at a set once the bidders before the k-th in the order have their bundles, less all that the members from it on can take
 abbrev pub spare_at : ℕ → List (List ℤ) → List ℤ → List (List ℤ) → ℕ → ℕ → ℤ
 spare_at n rows supply bundles k set = left_at n rows supply bundles k set -ℤ sum_at (drop k rows) set
 
@@ -94,9 +97,9 @@ LieWithin n m numbers = (set : ℕ) → set < 2 ^ suc n → Lies m (number_of nu
 
 -- the table of the bidder at a turn, and what must be given to it at each set
 pub record IsTurn (a : AuctionText) (answer : Answer) (turn : ℕ) (table floor : List ℤ) : Type 0 where
-  pub own : table ≡ get_or (tables_at (utilities_of a.bidders) a.supply a.reserve answer.prices.items (order_of a)) turn []
+  pub own : table ≡ get_or (tables_at (utilities_of a.bidders) a.supply a.reserve answer.prices.items a.order) turn []
   pub needed : (set : ℕ) → set < 2 ^ suc (length a.goods) → number_of floor set
-      ≡ floor_at (length a.goods) (tables_at (utilities_of a.bidders) a.supply a.reserve answer.prices.items (order_of a)) a.supply (in_order (order_of a) (bundles_of answer)) turn set
+      ≡ floor_at (length a.goods) (tables_at (utilities_of a.bidders) a.supply a.reserve answer.prices.items a.order) a.supply (in_order a.order (bundles_of answer)) turn set
   pub size : length table ≡ 2 ^ suc (length a.goods)
   pub room : length floor ≡ 512
   pub range : LieWithin (length a.goods) 4000000000000 floor
@@ -104,5 +107,29 @@ pub record IsTurn (a : AuctionText) (answer : Answer) (turn : ℕ) (table floor 
 -- the pair of the bidder at a turn and of a good is tight
 abbrev pub HasTightPair : AuctionText → Answer → ℕ → ℕ → Type 0
 HasTightPair a answer turn j =
-    let pair = pair_of (length a.goods) answer (place_at (order_of a) turn) j in
-    IsTightPair (utilities_of a.bidders) a.supply a.reserve answer.prices.items (order_of a) (bundles_of answer) turn j pair.upper pair.lower
+    let pair = pair_of (length a.goods) answer (place_at a.order turn) j in
+    IsTightPair (utilities_of a.bidders) a.supply a.reserve answer.prices.items a.order (bundles_of answer) turn j pair.upper pair.lower
+
+-- the reason is one against the two sets of a bidder and a good: they are no pair, or they are one and its number is another
+abbrev pub IsAgainst : AuctionText → Answer → ℕ → ℕ → Reason → Type 0
+IsAgainst a answer k j (Pair i g) = (i ≡ k) × (g ≡ j) × HoldsOfAnswer a answer (Pair k j)
+IsAgainst a answer k j (Tight i g bound) =
+    (i ≡ k) × (g ≡ j) × HoldsOfAnswer a answer (Tight k j bound) × IsPair (length a.goods) j (pair_of (length a.goods) answer k j).upper (pair_of (length a.goods) answer k j).lower
+IsAgainst a answer k j other = ⊥
+
+-- it is against the first good of a bidder, at its turn, whose pair isn't tight
+pub record IsFirstOfTurn (a : AuctionText) (answer : Answer) (turn : ℕ) (reason : Reason) : Type 0 where
+  pub good : ℕ
+  pub within : good < length a.goods
+  pub against : IsAgainst a answer (place_at a.order turn) good reason
+  pub before : (j : ℕ) → j < good → HasTightPair a answer turn j
+
+-- the bidder has had its turn, and the reason is the first against it; or there is none, and no such bidder
+abbrev pub IsOfBidder : AuctionText → Answer → ℕ → Option Reason → Type 0
+IsOfBidder a answer k None = length a.bidders ≤ k
+IsOfBidder a answer k (Some reason) = (turn : ℕ) × (turn < length a.bidders) × (place_at a.order turn ≡ k) × IsFirstOfTurn a answer turn reason
+
+-- of the bidders that had their turn, those of lesser number have tight pairs, and the one that is kept has not
+pub record IsFirstFailure (a : AuctionText) (answer : Answer) (turns : ℕ) (failure : Failure) : Type 0 where
+  pub tight : (turn j : ℕ) → turn < turns → place_at a.order turn < failure.bidder → j < length a.goods → HasTightPair a answer turn j
+  pub first : IsOfBidder a answer failure.bidder failure.reason

@@ -1,5 +1,6 @@
 // The tests of the pairs of sets, for each bidder and each good in turn.
-ghost use Rattle.std.specs.Prelude.{◌≡◌, ◌<◌, ◌≤◌, ◌^◌, ◌+◌, ◌∷◌, [], ◌-ℤ◌, ◌+ℤ◌, ℕ, suc, pos, All, length, get_or, IfErr, IfOk};
+ghost use Rattle.std.specs.Prelude.{◌≡◌, ◌<◌, ◌≤◌, ◌^◌, ◌+◌, ◌∷◌, [], ◌-ℤ◌, ◌+ℤ◌, ℕ, suc, pos, List, All, length, get_or, IfErr, IfOk};
+ghost use Rattle.mix_num.specs.Orders.{IsOrder, place_at};
 ghost use Rattle.mix_num.specs.Ranges.{Lies};
 ghost use Rattle.mix_num.specs.Sellers.{AreAmounts, IsAmount};
 ghost use Rattle.mix_num.specs.Sums.{total};
@@ -10,7 +11,7 @@ ghost use Rattle.mix_answer.specs.Truths.{HaveTights, pair_of};
 ghost use Rattle.mix_answer.specs.declared.outcome.Outcome.TheVariants.{Cleared};
 ghost use Rattle.mix_check.specs.Orders.{IsFirstReason, NoneBefore};
 ghost use Rattle.mix_check.specs.Reasons.{bundle_of, number_at};
-ghost use Rattle.mix_check.specs.Tests.{AreTablesAt, HasTightPair, HaveSums, IsTurn, LieWithin, rows_of, spare_at};
+ghost use Rattle.mix_check.specs.Tests.{AreTablesAt, HasTightPair, HaveSums, IsAgainst, IsFirstFailure, IsFirstOfTurn, IsTurn, LieWithin, rows_of, spare_at};
 
 use crate::reason::Reason;
 use crate::tables::{Tables, sets_of};
@@ -19,7 +20,15 @@ use mix_demand::Rho;
 use mix_num::{Bundle, Set, Tight, pair_number, sum_over};
 use mix_text::Auction;
 
-/// For each bidder and each good the two sets are a pair, and its number is what the bidder has of the good.
+/// The bidder of least number, of those that had their turn, with a pair that isn't tight, and why; or the number of all bidders, and no reason.
+#[derive(Clone, Copy, Drop)]
+struct Failure {
+    bidder: usize,
+    reason: Option<Reason>,
+}
+
+/// For each bidder and each good the two sets are a pair, and its number is what the bidder has of the good. The bidders have their turns in
+/// tie order; the reason is against the first of them in order of first appearance.
 pub fn tight(auction: &Auction, answer: &Answer, tables: &Tables) -> Result<(), Reason>
     requires shape { HasAnswerShape (auction_text auction.now) answer.now }
     requires tables { AreTablesAt (auction_text auction.now) answer.now.prices.items tables.now }
@@ -29,59 +38,92 @@ pub fn tight(auction: &Auction, answer: &Answer, tables: &Tables) -> Result<(), 
 {
     let mut spare = [0; 512];
     start(&mut spare, &auction.supply, tables);
-    for bidder in 0..auction.count() {
+    let mut first = Failure {
+        bidder: auction.count(),
+        reason: None,
+    };
+    for turn in 0..auction.count() {
+        let bidder = bidder_at(auction, turn);
         let table = &tables.bidders[bidder];
         give_back(&mut spare, table);
-        tight_of_bidder(auction, answer, table, bidder, &spare)?;
+        first = first_failure(auction, answer, table, turn, &spare, first);
         take(&mut spare, table, &answer.shares.get(bidder).bundle);
     }
-    Ok(())
+    match first.reason {
+        Some(reason) => Err(reason),
+        None => Ok(()),
+    }
 }
 
-/// The same of one bidder, from what must be given to it at each set.
-fn tight_of_bidder(
+/// What failed first, with the turn of one more bidder.
+fn first_failure(
     auction: &Auction,
     answer: &Answer,
     table: &Rho,
-    bidder: usize,
+    turn: usize,
+    floor: &[i64],
+    first: Failure,
+) -> Failure
+    requires shape { HasAnswerShape (auction_text auction.now) answer.now }
+    requires inside { turn < length auction.now.bidders }
+    requires turn { IsTurn (auction_text auction.now) answer.now turn table.now floor.now }
+    requires first { IsFirstFailure (auction_text auction.now) answer.now turn first }
+    ensures { IsFirstFailure (auction_text auction.now) answer.now (turn + 1) result }
+{
+    let bidder = bidder_at(auction, turn);
+    if bidder > first.bidder {
+        return first;
+    }
+    match tight_of_turn(auction, answer, table, turn, floor) {
+        Ok(()) => first,
+        Err(reason) => Failure {
+            bidder,
+            reason: Some(reason),
+        },
+    }
+}
+
+/// The pairs of the bidder at a turn, good by good, from what must be given to it at each set.
+fn tight_of_turn(
+    auction: &Auction,
+    answer: &Answer,
+    table: &Rho,
+    turn: usize,
     floor: &[i64],
 ) -> Result<(), Reason>
     requires shape { HasAnswerShape (auction_text auction.now) answer.now }
-    requires bidder { bidder < length auction.now.bidders }
-    requires turn { IsTurn (auction_text auction.now) answer.now bidder table.now floor.now }
-    requires before { NoneBefore (auction_text auction.now) (Cleared answer.now) (9 ∷ bidder ∷ []) }
-    ensures passed { IfOk result (λ done. (j : ℕ) → j < length auction.now.goods → HasTightPair (auction_text auction.now) answer.now bidder j) }
-    ensures next { IfOk result (λ done. NoneBefore (auction_text auction.now) (Cleared answer.now) (9 ∷ suc bidder ∷ [])) }
-    ensures reason { IfErr result (IsFirstReason (auction_text auction.now) (Cleared answer.now)) }
+    requires inside { turn < length auction.now.bidders }
+    requires turn { IsTurn (auction_text auction.now) answer.now turn table.now floor.now }
+    ensures passed { IfOk result (λ done. (j : ℕ) → j < length auction.now.goods → HasTightPair (auction_text auction.now) answer.now turn j) }
+    ensures reason { IfErr result (IsFirstOfTurn (auction_text auction.now) answer.now turn) }
 {
     for good in 0..auction.goods.len() {
-        tight_of_good(auction, answer, table, bidder, good, floor)?;
+        tight_of_good(auction, answer, table, turn, good, floor)?;
     }
     Ok(())
 }
 
-/// The same of one bidder and one good.
+/// The same of one good.
 fn tight_of_good(
     auction: &Auction,
     answer: &Answer,
     table: &Rho,
-    bidder: usize,
+    turn: usize,
     good: usize,
     floor: &[i64],
 ) -> Result<(), Reason>
     requires shape { HasAnswerShape (auction_text auction.now) answer.now }
-    requires bidder { bidder < length auction.now.bidders }
+    requires inside { turn < length auction.now.bidders }
     requires good { good < length auction.now.goods }
-    requires turn { IsTurn (auction_text auction.now) answer.now bidder table.now floor.now }
-    requires before { NoneBefore (auction_text auction.now) (Cleared answer.now) (9 ∷ bidder ∷ good ∷ []) }
-    ensures passed { IfOk result (λ done. HasTightPair (auction_text auction.now) answer.now bidder good) }
-    ensures next { IfOk result (λ done. NoneBefore (auction_text auction.now) (Cleared answer.now) (9 ∷ bidder ∷ suc good ∷ [])) }
-    ensures reason { IfErr result (IsFirstReason (auction_text auction.now) (Cleared answer.now)) }
+    requires turn { IsTurn (auction_text auction.now) answer.now turn table.now floor.now }
+    ensures passed { IfOk result (λ done. HasTightPair (auction_text auction.now) answer.now turn good) }
+    ensures reason { IfErr result (IsAgainst (auction_text auction.now) answer.now (place_at auction.now.order turn) good) }
 {
+    let bidder = bidder_at(auction, turn);
     if !pair_at(auction, answer, bidder, good).is_pair(good, auction.goods.len()) {
         return Err(Reason::Pair { bidder, good });
     }
-    let bound = bound_at(auction, answer, bidder, good, table, floor);
+    let bound = bound_at(auction, answer, turn, good, table, floor);
     if bound != amount_at(auction, answer, bidder, good) {
         return Err(Reason::Tight {
             bidder,
@@ -90,6 +132,15 @@ fn tight_of_good(
         });
     }
     Ok(())
+}
+
+/// The bidder whose turn it is.
+fn bidder_at(auction: &Auction, turn: usize) -> usize
+    requires { turn < length auction.now.bidders }
+    ensures place { result ≡ place_at auction.now.order turn }
+    ensures inside { result < length auction.now.bidders }
+{
+    auction.order.place(turn)
 }
 
 /// The two sets of a bidder and a good.
@@ -114,22 +165,23 @@ fn amount_at(auction: &Auction, answer: &Answer, bidder: usize, good: usize) -> 
     answer.shares.get(bidder).bundle[good]
 }
 
-/// The number of the pair of a bidder and a good, from what must be given to the bidder at each set.
+/// The number of the pair of a good and of the bidder at a turn, from what must be given to the bidder at each set.
 fn bound_at(
     auction: &Auction,
     answer: &Answer,
-    bidder: usize,
+    turn: usize,
     good: usize,
     table: &Rho,
     floor: &[i64],
 ) -> i64
     requires shape { HasAnswerShape (auction_text auction.now) answer.now }
-    requires bidder { bidder < length auction.now.bidders }
+    requires inside { turn < length auction.now.bidders }
     requires good { good < length auction.now.goods }
-    requires turn { IsTurn (auction_text auction.now) answer.now bidder table.now floor.now }
-    ensures value { result ≡ number_at (auction_text auction.now) answer.now bidder good }
+    requires turn { IsTurn (auction_text auction.now) answer.now turn table.now floor.now }
+    ensures value { result ≡ number_at (auction_text auction.now) answer.now turn good }
     ensures range { Lies 9000000000000 result }
 {
+    let bidder = bidder_at(auction, turn);
     let pair = pair_at(auction, answer, bidder, good);
     let bundle = &answer.shares.get(bidder).bundle;
     let number = table.at(pair.upper);
@@ -149,7 +201,8 @@ fn start(spare: &mut [i64], supply: &Bundle, tables: &Tables)
     requires supply { All IsAmount supply.now.items }
     requires tables { HaveSums (length supply.now.items) tables.now }
     ensures size { length spare.new ≡ 512 }
-    ensures value { (set : ℕ) → set < 2 ^ suc (length supply.now.items) → number_of spare.new set ≡ spare_at (length supply.now.items) (rows_of tables.now) supply.now.items [] 0 set }
+    ensures value { (order : List ℕ) → IsOrder (length tables.now.bidders.items) order → (set : ℕ) → set < 2 ^ suc (length supply.now.items)
+        → number_of spare.new set ≡ spare_at (length supply.now.items) (rows_of order tables.now) supply.now.items [] 0 set }
     ensures range { LieWithin (length supply.now.items) 9000000000 spare.new }
 {
     let whole = Set::whole(supply.len());

@@ -22,6 +22,10 @@ const TAKEN_BACK: &[u8] =
 const TWICE: &[u8] =
     b"mix,1\ngoods,A,B\nsupply,1,1\nreserve,0,0\nbid,X,1,6,-\nbid,X,1,-,6\nbid,X,-1,6,6\nbid,Z,1,6,-\nbid,Z,1,-,6\nbid,Z,-1,6,6\nend\n";
 
+// Two bidders who each want one good, whichever it is; Q is served first.
+const LAST_FIRST: &[u8] =
+    b"mix,2\ngoods,A,B\nsupply,1,1\nreserve,0,0\nbid,P,1,5,5\nbid,Q,1,5,5\norder,Q,P\nend\n";
+
 // The verdict on the outcome of these lines, written after an auction.
 fn verdict(alloc: Global, auction: &[u8], lines: [&[u8]; 7]) -> Result<Verdict, Fail> {
     let mut text = auction.to_vec(alloc)?;
@@ -169,6 +173,66 @@ fn answers(rt: HostRuntime) -> Result<(), Fail> {
     ];
     for (auction, lines, expected) in cases {
         assert_eq!(rt; verdict(alloc, auction, lines)?, expected);
+    }
+    Ok(())
+}
+
+// Q, who is served first, is to get the first good; of two who have no right pairs P is named, who comes first among the bids.
+#[test]
+fn answers_in_tie_order(rt: HostRuntime) -> Result<(), Fail> {
+    let alloc = rt.alloc();
+    let head = b"outcome,2\norder,Q,P\ncleared\nprice,0,0\n";
+    let back = b"return,0,0\n";
+    let end = b"end\n";
+    let served: &[u8] = b"share,P,0,1,0\nshare,Q,1,0,0\n";
+    let as_they_stand: &[u8] = b"share,P,1,0,0\nshare,Q,0,1,0\n";
+    let cases: [(&[u8], &[u8], &[u8], Verdict); 5] = [
+        (
+            served,
+            b"tight,P,A,7,5\ntight,P,B,4,0\n",
+            b"tight,Q,A,2,0\ntight,Q,B,6,0\n",
+            Verdict::Yes,
+        ),
+        (
+            as_they_stand,
+            b"tight,P,A,2,0\ntight,P,B,6,0\n",
+            b"tight,Q,A,7,5\ntight,Q,B,4,0\n",
+            Verdict::No(Reason::Tight {
+                bidder: 1,
+                good: 0,
+                bound: 1,
+            }),
+        ),
+        (
+            served,
+            b"tight,P,A,7,5\ntight,P,B,4,0\n",
+            b"tight,Q,A,2,0\ntight,Q,B,6,2\n",
+            Verdict::No(Reason::Tight {
+                bidder: 1,
+                good: 1,
+                bound: 2,
+            }),
+        ),
+        (
+            served,
+            b"tight,P,A,7,5\ntight,P,B,4,2\n",
+            b"tight,Q,A,2,0\ntight,Q,B,6,1\n",
+            Verdict::No(Reason::Tight {
+                bidder: 0,
+                good: 1,
+                bound: 2,
+            }),
+        ),
+        (
+            served,
+            b"tight,P,A,7,4\ntight,P,B,4,0\n",
+            b"tight,Q,A,3,0\ntight,Q,B,6,0\n",
+            Verdict::No(Reason::Pair { bidder: 0, good: 0 }),
+        ),
+    ];
+    for (shares, of_first, of_last, expected) in cases {
+        let lines = [head, shares, back, of_first, of_last, end, b""];
+        assert_eq!(rt; verdict(alloc, LAST_FIRST, lines)?, expected);
     }
     Ok(())
 }

@@ -1,12 +1,14 @@
 -- How large the numbers of an answer are, and that its pairs are of sets of choices.
-use Rattle.std.proofs.Common.{◌≡◌, ℕ, ◌*◌, ◌/◌, ◌%◌, ◌<◌, ℤ, pos, List, [], All, length, get_or, sym, ◌∙◌, subst, arith}
+use Rattle.std.proofs.Common.{◌≡◌, ℕ, ◌+◌, ◌*◌, ◌/◌, ◌%◌, ◌<◌, ℤ, pos, List, [], All, length, get_or, sym, ◌∙◌, subst, arith}
 use Rattle.std.proofs.lemmas.Int.{ints}
 use Rattle.std.proofs.Math.Nat.{div-lt_iff_lt-mul, mod-lt}
 use Rattle.std.proofs.lemmas.Nat.{div-add-mod'}
 use Rattle.std.proofs.lemmas.List.{get_or-map, get_or_default, length-map}
+use Rattle.mix_num.specs.Orders.{IsOrder, place_at}
 use Rattle.mix_num.specs.Vectors.{Vector}
 use Rattle.mix_num.specs.Sellers.{AreAmounts, IsForSale}
 use Rattle.mix_num.specs.declared.pair.Tight.{Tight}
+use Rattle.mix_num.proofs.Orders.{all-where_in_order, length-order}
 use Rattle.mix_pay.proofs.PaymentBounds.{payment_bound}
 use Rattle.mix_clearing.specs.Utilities.{KeepLaws}
 use Rattle.mix_clearing.proofs.ClearedAmounts.{amounts, bundle-amounts, return-amounts}
@@ -17,8 +19,8 @@ use Rattle.mix_answer.specs.declared.outcome.Answer.{Answer}
 use Rattle.mix_answer.specs.declared.share.Share.{Share}
 use Rattle.mix_solve.specs.Answers.{IsAnswerFor}
 
-module _ (utilities : List (Vector → ℤ)) (supply reserve : List ℤ) (answer : Answer) (laws : KeepLaws (length supply) utilities) (sale : IsForSale supply reserve)
-    (own : IsAnswerFor utilities supply reserve answer) where
+module _ (utilities : List (Vector → ℤ)) (supply reserve : List ℤ) (order : List ℕ) (answer : Answer) (laws : KeepLaws (length supply) utilities) (sale : IsForSale supply reserve)
+    (ordered : IsOrder (length utilities) order) (own : IsAnswerFor utilities supply reserve order answer) where
   abbrev n : ℕ
   n = length supply
 
@@ -56,7 +58,8 @@ module _ (utilities : List (Vector → ℤ)) (supply reserve : List ℤ) (answer
       let total : i < length utilities * n = subst (λ (m : ℕ). i < m) own.tights.count l in
       let k : i / n < length utilities = (div-lt_iff_lt-mul some).1 total in
       let j : i % n < n = mod-lt i some in
-      let pair = (own.tights.first (i / n) (i % n) k j).tight.pair in
       let P : ℕ → Type 0 = λ m. AreSets n (get_or answer.tights m none) in
-      let at : AreSets n (get_or answer.tights i none) = subst P (div-add-mod' i n) (pair.upper_set, pair.lower_set) in
+      let each : (turn : ℕ) → turn < length order → P (place_at order turn * n + i % n) =
+      λ turn h. let pair = (own.tights.first turn (i % n) (omega (arith, h, length-order (length utilities) order ordered)) j).tight.pair in (pair.upper_set, pair.lower_set) in
+      let at : AreSets n (get_or answer.tights i none) = subst P (div-add-mod' i n) (all-where_in_order (λ bidder. P (bidder * n + i % n)) (length utilities) order ordered each (i / n) k) in
       subst (AreSets n) (get_or_default answer.tights i none d l) at

@@ -1,11 +1,9 @@
 -- What solves the market of an auction solves the auction.
-use Rattle.std.proofs.Common.{◌≡◌, ℕ, ◌+◌, ◌*◌, ◌<◌, List, ℤ, [], All, length, get_or, map, sym, ap₂, ◌∙◌, subst, arith}
+use Rattle.std.proofs.Common.{◌≡◌, ℕ, ◌*◌, List, ℤ, [], All, length, get_or, map, sym, ap₂, ◌∙◌, subst, arith}
 use Rattle.std.proofs.lemmas.List.{get_or_default, length-map}
-use Rattle.std.proofs.lemmas.List.FromFn.{get_or-range_with_len}
-use Rattle.mix_num.specs.Orders.{place_at, places}
+use Rattle.mix_num.specs.Orders.{IsOrder, place_at}
 use Rattle.mix_num.specs.Sellers.{AreAmounts, IsForSale}
 use Rattle.mix_num.specs.Vectors.{Vector, with_null}
-use Rattle.mix_num.specs.declared.pair.Tight.{Tight}
 use Rattle.mix_bids.specs.Bids.{Book, utility}
 use Rattle.mix_bids.specs.Convexity.{IsConvexList}
 use Rattle.mix_bids.specs.declared.bid.Bid.{Bid}
@@ -15,12 +13,12 @@ use Rattle.mix_validity.specs.ValidLists.{book_of}
 use Rattle.mix_validity.specs.declared.valid_list.ValidList.{ValidList}
 use Rattle.mix_validity.proofs.ListsAtScales.{lists_keep_scales, utilities_once}
 use Rattle.mix_text.specs.Auctions.{AuctionText, IsAuction}
+use Rattle.mix_text.proofs.TieOrders.{is_order}
 use Rattle.mix_seller.specs.Sellers.{for_sale, reserve_of, supply_of}
 use Rattle.mix_market.specs.Lyapunov.{IsLeastPoint, lyapunov}
 use Rattle.mix_market.specs.Markets.{members_of, seller_of}
 use Rattle.mix_market.specs.declared.market.Market.{Market}
 use Rattle.mix_clearing.specs.Certificates.{IsFirstTightPair}
-use Rattle.mix_clearing.specs.Clearings.{IsSolution}
 use Rattle.mix_clearing.specs.Scales.{AreLeastOfFractions, at_scale}
 use Rattle.mix_clearing.specs.Utilities.{KeepLaws}
 use Rattle.mix_clearing.specs.Values.{AreWorthMost}
@@ -28,7 +26,7 @@ use Rattle.mix_clearing.proofs.Fractions.{least_of_fractions}
 use Rattle.mix_clearing.proofs.Worths.{worth_most-where_clears}
 use Rattle.mix_answer.specs.Refusals.{AreConvex}
 use Rattle.mix_answer.specs.Shapes.{AreSets, HasAnswerShape, IsShare}
-use Rattle.mix_answer.specs.Truths.{HaveFirstTights, IsTrueAnswer, bundles_of, order_of, pair_of}
+use Rattle.mix_answer.specs.Truths.{HaveFirstTights, IsTrueAnswer, bundles_of, pair_of}
 use Rattle.mix_answer.specs.Utilities.{scaled_utilities_of, utilities_of}
 use Rattle.mix_answer.specs.declared.outcome.Answer.{Answer}
 use Rattle.mix_solve.specs.Admissions.{IsMarketOf}
@@ -36,44 +34,42 @@ use Rattle.mix_solve.specs.Answers.{IsAnswerFor}
 use Rattle.mix_solve.proofs.AnswerShapes.{pairs_shape, price_amounts, return_amounts, shares_count, shares_shape}
 use Rattle.mix_solve.proofs.AuctionPrices.{lists_utilities}
 
--- the utilities keep the laws, the seller's numbers are in range, and the answer is one for them
-record IsSound (answer : Answer) (utilities : List (Vector → ℤ)) (supply reserve : List ℤ) : Type 0 where
+-- the utilities keep the laws, the seller's numbers are in range, and the answer is one for them in the order
+record IsSound (order : List ℕ) (answer : Answer) (utilities : List (Vector → ℤ)) (supply reserve : List ℤ) : Type 0 where
   laws : KeepLaws (length supply) utilities
   sale : IsForSale supply reserve
-  own : IsAnswerFor utilities supply reserve answer
+  own : IsAnswerFor utilities supply reserve order answer
 
 -- from the market of an auction to the auction
 of_auction : {g : Ghosts ValidList} (a : AuctionText) (market : Market ValidList g) (answer : Answer) → IsMarketOf a market
-    → IsSound answer (map (λ valid. utility (book_of valid).bids) (members_of market)) (supply_of (seller_of market)) (reserve_of (seller_of market))
-    → IsSound answer (utilities_of a.bidders) a.supply a.reserve
+    → IsSound a.order answer (map (λ valid. utility (book_of valid).bids) (members_of market)) (supply_of (seller_of market)) (reserve_of (seller_of market))
+    → IsSound a.order answer (utilities_of a.bidders) a.supply a.reserve
 of_auction a market answer is sound =
-    let one = subst (λ (fs : List (Vector → ℤ)). IsSound answer fs (supply_of (seller_of market)) (reserve_of (seller_of market))) (lists_utilities a.bidders (members_of market) is.members) sound in
-    let two = subst (λ (t : List ℤ). IsSound answer (utilities_of a.bidders) t (reserve_of (seller_of market))) is.supply one in
-    subst (λ (r : List ℤ). IsSound answer (utilities_of a.bidders) a.supply r) is.reserve two
+    let one = subst (λ (fs : List (Vector → ℤ)). IsSound a.order answer fs (supply_of (seller_of market)) (reserve_of (seller_of market))) (lists_utilities a.bidders (members_of market) is.members) sound in
+    let two = subst (λ (t : List ℤ). IsSound a.order answer (utilities_of a.bidders) t (reserve_of (seller_of market))) is.supply one in
+    subst (λ (r : List ℤ). IsSound a.order answer (utilities_of a.bidders) a.supply r) is.reserve two
 
-module _ (a : AuctionText) (answer : Answer) (is : IsAuction a) (convex : AreConvex a.bidders) (sound : IsSound answer (utilities_of a.bidders) a.supply a.reserve) where
+module _ (a : AuctionText) (answer : Answer) (is : IsAuction a) (convex : AreConvex a.bidders) (sound : IsSound a.order answer (utilities_of a.bidders) a.supply a.reserve) where
   count : length (utilities_of a.bidders) ≡ length a.bidders
   count = length-map a.bidders (λ (bidder : List ℕ × Book). utility bidder.1.bids)
 
   goods : length a.supply ≡ length a.goods
   goods = is.supply.0
 
+  ordered : IsOrder (length (utilities_of a.bidders)) a.order
+  ordered = subst (λ (m : ℕ). IsOrder m a.order) (sym count) (is_order (length a.bidders) a.order is.order)
+
   -- the pairs, by the auction's own counts
   first_tights : HaveFirstTights a answer
   first_tights k j h l =
-      let none : Tight = record { upper = 0; lower = 0 } in
-      let First : ℕ → ℕ → Type 0 = λ n m. (k j : ℕ) → k < m → j < n → IsFirstTightPair (utilities_of a.bidders) a.supply a.reserve answer.prices.items (places m) (bundles_of answer) k j
-      (get_or answer.tights (k * n + j) none).upper (get_or answer.tights (k * n + j) none).lower in
-      let own : First (length a.goods) (length a.bidders) = subst (λ (n : ℕ). First n (length a.bidders)) goods (subst (λ (m : ℕ). First (length a.supply) m) count sound.own.tights.first) in
-      let place : place_at (order_of a) k ≡ k = get_or-range_with_len 0 (length a.bidders) k 0 h ∙ (let e : 0 + k ≡ k = omega arith in e) in
-      let At : ℕ → Type 0 = λ i. IsFirstTightPair (utilities_of a.bidders) a.supply a.reserve answer.prices.items (order_of a) (bundles_of answer) k j
-      (pair_of (length a.goods) answer i j).upper (pair_of (length a.goods) answer i j).lower in
-      subst At (sym place) (own k j h l)
+      let First : ℕ → Type 0 = λ n. IsFirstTightPair (utilities_of a.bidders) a.supply a.reserve answer.prices.items a.order (bundles_of answer) k j
+      (pair_of n answer (place_at a.order k) j).upper (pair_of n answer (place_at a.order k) j).lower in
+      subst First goods (sound.own.tights.first k j (omega (arith, h, count)) (omega (arith, l, goods)))
 
   true_answer : IsTrueAnswer a answer
   true_answer = record {
     convex = convex;
-    solution = subst (λ (m : ℕ). IsSolution (utilities_of a.bidders) a.supply a.reserve (places m) answer.prices.items (bundles_of answer) answer.returns.items) count sound.own.solution;
+    solution = sound.own.solution;
     payments = sound.own.payments;
     tights = λ k j h l. (first_tights k j h l).tight;
   }
@@ -84,12 +80,12 @@ module _ (a : AuctionText) (answer : Answer) (is : IsAuction a) (convex : AreCon
       let sale = sound.sale in
       let own = sound.own in
       record {
-        prices = subst (λ (n : ℕ). AreAmounts n answer.prices.items) goods (price_amounts (utilities_of a.bidders) a.supply a.reserve answer laws sale own);
-        count = shares_count (utilities_of a.bidders) a.supply a.reserve answer laws sale own ∙ count;
-        shares = subst (λ (n : ℕ). All (IsShare n) answer.shares) goods (shares_shape (utilities_of a.bidders) a.supply a.reserve answer laws sale own);
-        returns = subst (λ (n : ℕ). AreAmounts n answer.returns.items) goods (return_amounts (utilities_of a.bidders) a.supply a.reserve answer laws sale own);
+        prices = subst (λ (n : ℕ). AreAmounts n answer.prices.items) goods (price_amounts (utilities_of a.bidders) a.supply a.reserve a.order answer laws sale ordered own);
+        count = shares_count (utilities_of a.bidders) a.supply a.reserve a.order answer laws sale ordered own ∙ count;
+        shares = subst (λ (n : ℕ). All (IsShare n) answer.shares) goods (shares_shape (utilities_of a.bidders) a.supply a.reserve a.order answer laws sale ordered own);
+        returns = subst (λ (n : ℕ). AreAmounts n answer.returns.items) goods (return_amounts (utilities_of a.bidders) a.supply a.reserve a.order answer laws sale ordered own);
         pairs = own.tights.count ∙ ap₂ (λ (m n : ℕ). m * n) count goods;
-        tights = subst (λ (n : ℕ). All (AreSets n) answer.tights) goods (pairs_shape (utilities_of a.bidders) a.supply a.reserve answer laws sale own);
+        tights = subst (λ (n : ℕ). All (AreSets n) answer.tights) goods (pairs_shape (utilities_of a.bidders) a.supply a.reserve a.order answer laws sale ordered own);
       }
 
   -- nothing is worth more
@@ -122,7 +118,7 @@ pub record Solves (a : AuctionText) (answer : Answer) : Type 0 where
 -- the answer for the market of an auction is one to the auction
 pub solves_auction : {g : Ghosts ValidList} (a : AuctionText) (market : Market ValidList g) (answer : Answer) → IsAuction a → IsMarketOf a market
     → KeepLaws (length (supply_of (seller_of market))) (map (λ valid. utility (book_of valid).bids) (members_of market))
-    → IsAnswerFor (map (λ valid. utility (book_of valid).bids) (members_of market)) (supply_of (seller_of market)) (reserve_of (seller_of market)) answer
+    → IsAnswerFor (map (λ valid. utility (book_of valid).bids) (members_of market)) (supply_of (seller_of market)) (reserve_of (seller_of market)) a.order answer
     → Solves a answer
 solves_auction a market answer is of laws own =
     let sound = of_auction a market answer of (record { laws = laws; sale = for_sale (seller_of market); own = own }) in

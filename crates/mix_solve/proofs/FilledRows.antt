@@ -1,14 +1,14 @@
--- Rows that are filled one after the other, with the members' tables and then the seller's.
+-- Rows that are filled one after the other, with the members' tables in an order and then the seller's.
 use Rattle.std.proofs.Common.{◌≡◌, ◌≢◌, ℕ, suc, ◌+◌, ◌<◌, ◌≤◌, ◌⊎◌, inl, inr, ℤ, pos, List, [], ◌∷◌, ◌++◌, length, get_or, map, sym, ap, ◌∙◌, subst, arith, eq-or-lt_of_le}
 use Rattle.std.proofs.lemmas.List.{ext_get_or, get_or-map, get_or_append_left, length-append, length-map}
 use Rattle.std.proofs.Math.Seq.{get_or-append_seam}
 use Rattle.mix_num.specs.Vectors.{Vector}
-use Rattle.mix_num.specs.Orders.{places}
+use Rattle.mix_num.specs.Orders.{IsOrder, in_order, place_at}
+use Rattle.mix_num.proofs.Orders.{get-in_order, place_below}
 use Rattle.mix_num.specs.Sellers.{seller_gain}
 use Rattle.mix_law.specs.Demands.{IsTableOf, table_of}
 use Rattle.mix_clearing.specs.Certificates.{tables_at}
 use Rattle.mix_clearing.specs.Clearings.{bidder_utility}
-use Rattle.mix_clearing.proofs.Solutions.{tables_at-places}
 use Rattle.mix_clearing.proofs.TableLists.{is-table_of}
 
 -- the rows before k, and the one at k that was set just now
@@ -20,32 +20,33 @@ one_more_row P old new k before here others j h = at (eq-or-lt_of_le (let le : j
     at (inl e) = subst (λ (i : ℕ). P i (get_or new i [])) (sym e) here
     at (inr l) = subst (P j) (sym (others j (omega arith))) (before j l)
 
-module _ (utilities : List (Vector → ℤ)) (supply reserve p : List ℤ) (rows : List (List ℤ)) (count : length rows ≡ suc (length utilities))
-    (each : (k : ℕ) → k < length utilities → IsTableOf (length supply) (bidder_utility utilities k) p (get_or rows k []))
-    (last : IsTableOf (length supply) (seller_gain supply reserve) p (get_or rows (length utilities) [])) where
+module _ (utilities : List (Vector → ℤ)) (supply reserve p : List ℤ) (order : List ℕ) (rows : List (List ℤ)) (ordered : IsOrder (length utilities) order) (count : length rows ≡ suc (length order))
+    (each : (k : ℕ) → k < length order → IsTableOf (length supply) (bidder_utility utilities (place_at order k)) p (get_or rows k []))
+    (last : IsTableOf (length supply) (seller_gain supply reserve) p (get_or rows (length order) [])) where
   abbrev tables : List (List ℤ)
   tables = map (λ f. table_of (length supply) f p) utilities
 
   abbrev seller : List ℤ
   seller = table_of (length supply) (seller_gain supply reserve) p
 
-  size : length tables ≡ length utilities
-  size = length-map utilities (λ f. table_of (length supply) f p)
+  size : length (in_order order tables) ≡ length order
+  size = length-map order (λ k. get_or tables k [])
 
-  same : (k : ℕ) → (k ≡ length utilities) ⊎ (k < length utilities) → get_or rows k [] ≡ get_or (tables ++ seller ∷ []) k []
+  same : (k : ℕ) → (k ≡ length order) ⊎ (k < length order) → get_or rows k [] ≡ get_or (in_order order tables ++ seller ∷ []) k []
   same k (inl e) =
       ap (λ (j : ℕ). get_or rows j []) e
-      ∙ is-table_of (length supply) (seller_gain supply reserve) p (get_or rows (length utilities) []) last
-      ∙ sym (get_or-append_seam tables seller [] [])
-      ∙ ap (λ (j : ℕ). get_or (tables ++ seller ∷ []) j []) (size ∙ sym e)
+      ∙ is-table_of (length supply) (seller_gain supply reserve) p (get_or rows (length order) []) last
+      ∙ sym (get_or-append_seam (in_order order tables) seller [] [])
+      ∙ ap (λ (j : ℕ). get_or (in_order order tables ++ seller ∷ []) j []) (size ∙ sym e)
   same k (inr l) =
-      is-table_of (length supply) (bidder_utility utilities k) p (get_or rows k []) (each k l)
-      ∙ sym (get_or-map (λ f. table_of (length supply) f p) utilities k (λ x. pos 0) [] l)
-      ∙ sym (get_or_append_left tables (seller ∷ []) [] k (omega (arith, l, size)))
+      is-table_of (length supply) (bidder_utility utilities (place_at order k)) p (get_or rows k []) (each k l)
+      ∙ sym (get_or-map (λ f. table_of (length supply) f p) utilities (place_at order k) (λ x. pos 0) [] (place_below (length utilities) order k ordered l))
+      ∙ sym (get-in_order tables order k l)
+      ∙ sym (get_or_append_left (in_order order tables) (seller ∷ []) [] k (omega (arith, l, size)))
 
   -- all rows together are the tables of the market
-  pub rows-tables : rows ≡ tables_at utilities supply reserve p (places (length utilities))
+  pub rows-tables : rows ≡ tables_at utilities supply reserve p order
   rows-tables =
-      ext_get_or [] rows (tables ++ seller ∷ []) (count ∙ sym (length-append tables (seller ∷ []) ∙ (let e : length tables + 1 ≡ suc (length utilities) = omega (arith, size) in e)))
-      (λ k l. same k (eq-or-lt_of_le (let le : k ≤ length utilities = omega (arith, l, count) in le)))
-      ∙ sym (tables_at-places utilities supply reserve p)
+      ext_get_or [] rows (in_order order tables ++ seller ∷ [])
+      (count ∙ sym (length-append (in_order order tables) (seller ∷ []) ∙ (let e : length (in_order order tables) + 1 ≡ suc (length order) = omega (arith, size) in e)))
+      (λ k l. same k (eq-or-lt_of_le (let le : k ≤ length order = omega (arith, l, count) in le)))

@@ -6,3 +6,4 @@ mod FilledRows
 mod LeastPointsClear
 mod ListsInOrder
 mod MarketShares
+pub mod PutBack

@@ -6,6 +6,7 @@ mod admission;
 mod charging;
 mod filling;
 mod least;
+mod places;
 mod sharing;
 mod solution;
 pub mod theorems;

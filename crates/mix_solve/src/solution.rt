@@ -1,8 +1,9 @@
 // The whole way from an auction to its outcome.
-ghost use Rattle.std.specs.Prelude.{◌≡◌, ◌↔◌, map, IfOk};
+ghost use Rattle.std.specs.Prelude.{◌≡◌, ◌↔◌, length, map, IfOk};
 ghost use Rattle.mix_bids.specs.Bids.{utility};
 ghost use Rattle.mix_validity.specs.ValidLists.{book_of};
 ghost use Rattle.mix_text.specs.AuctionTexts.{auction_text};
+ghost use Rattle.mix_text.specs.Orders.{IsTieOrder};
 ghost use Rattle.mix_seller.specs.Sellers.{reserve_of, supply_of};
 ghost use Rattle.mix_market.specs.Markets.{members_of, seller_of};
 ghost use Rattle.mix_clearing.specs.Scales.{AreLeastOfFractions};
@@ -21,12 +22,12 @@ use crate::sharing::share_out;
 use mix_answer::{Answer, Outcome, Tights};
 use mix_market::Market;
 use mix_num::{Memory, Tight};
-use mix_text::Auction;
+use mix_text::{Auction, Order};
 use mix_validity::ValidList;
 use std::alloc::Global;
 
 /// The outcome of an auction. Where each bidder's list is convex, it is the answer: the least clearing prices at or above the
-/// reserves, the bundles that clear there by the tie rule in the order of first appearance, what each bidder pays, what is
+/// reserves, the bundles that clear there by the tie rule in the auction's tie order, what each bidder pays, what is
 /// left with the seller, and the first tight pair of each bidder and each good. Else it is a refusal of the first bidder whose
 /// list isn't convex, with a facet of it that has negative weight.
 ///
@@ -43,16 +44,21 @@ pub fn solve(alloc: Global, auction: &Auction) -> Result<Outcome, Memory>
 {
     match admit(alloc, auction)? {
         Admitted::Refused(refusal) => Ok(Outcome::Refused(refusal)),
-        Admitted::Market(market) => Ok(Outcome::Cleared(answer_of(alloc, &market)?)),
+        Admitted::Market(market) => Ok(Outcome::Cleared(answer_of(
+            alloc,
+            &market,
+            &auction.order,
+        )?)),
     }
 }
 
-/// The answer of a market.
-fn answer_of(alloc: Global, market: &Market<ValidList>) -> Result<Answer, Memory>
-    ensures { IfOk result (IsAnswerFor (map (λ valid. utility (book_of valid).bids) (members_of market.now)) (supply_of (seller_of market.now)) (reserve_of (seller_of market.now))) }
+/// The answer of a market, whose members are served in the tie order.
+fn answer_of(alloc: Global, market: &Market<ValidList>, order: &Order) -> Result<Answer, Memory>
+    requires { IsTieOrder (length (members_of market.now)) order.now }
+    ensures { IfOk result (IsAnswerFor (map (λ valid. utility (book_of valid).bids) (members_of market.now)) (supply_of (seller_of market.now)) (reserve_of (seller_of market.now)) order.now) }
 {
     let prices = least_prices(market);
-    let sharing = share_out(alloc, market, &prices)?;
+    let sharing = share_out(alloc, market, order, &prices)?;
     let shares = charge(alloc, &prices, sharing.bundles)?;
     let tights = listed(alloc, &sharing.tights)?;
     Ok(Answer {

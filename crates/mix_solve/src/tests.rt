@@ -36,6 +36,20 @@ const TIED: &[u8] = b"mix,1\ngoods,A,B\nsupply,1,1\nreserve,0,0\nbid,P,1,5,5\nbi
 const TIED_SOLVED: &[u8] =
     b"outcome,1\ncleared\nprice,0,0\nshare,P,1,0,0\nshare,Q,0,1,0\nreturn,0,0\ntight,P,A,2,0\ntight,P,B,6,0\ntight,Q,A,7,5\ntight,Q,B,4,0\nend\n";
 
+// The same two, of whom Q is served first.
+const SERVED_LAST_FIRST: &[u8] = b"mix,2\ngoods,A,B\nsupply,1,1\nreserve,0,0\nbid,P,1,5,5\nbid,Q,1,5,5\norder,Q,P\nend\n";
+
+// So Q gets the first good, and P the second.
+const SERVED_LAST_FIRST_SOLVED: &[u8] =
+    b"outcome,2\norder,Q,P\ncleared\nprice,0,0\nshare,P,0,1,0\nshare,Q,1,0,0\nreturn,0,0\ntight,P,A,7,5\ntight,P,B,4,0\ntight,Q,A,2,0\ntight,Q,B,6,0\nend\n";
+
+// Three bidders for one unit, which goes to the one who is served first.
+const THREE: &[u8] =
+    b"mix,2\ngoods,A\nsupply,1\nreserve,0\nbid,P,1,5\nbid,Q,1,5\nbid,R,1,5\norder,R,P,Q\nend\n";
+
+const THREE_SOLVED: &[u8] =
+    b"outcome,2\norder,R,P,Q\ncleared\nprice,5\nshare,P,0,0\nshare,Q,0,0\nshare,R,1,5\nreturn,0\ntight,P,A,3,1\ntight,Q,A,3,1\ntight,R,A,2,0\nend\n";
+
 // X gets the lesser of what the two goods leave it: that is not convex where A and B cost the same, 5 at most.
 const COMPLEMENTS: &[u8] =
     b"mix,1\ngoods,A,B\nsupply,1,1\nreserve,0,0\nbid,X,1,6,-\nbid,X,1,-,6\nbid,X,-1,6,6\nend\n";
@@ -156,7 +170,12 @@ fn refuses_the_first(rt: HostRuntime) -> Result<(), Fail> {
 #[test]
 fn solves_ties_by_the_rule(rt: HostRuntime) -> Result<(), Fail> {
     let alloc = rt.alloc();
-    for (text, solved) in [(VALID, VALID_SOLVED), (TIED, TIED_SOLVED)] {
+    for (text, solved) in [
+        (VALID, VALID_SOLVED),
+        (TIED, TIED_SOLVED),
+        (SERVED_LAST_FIRST, SERVED_LAST_FIRST_SOLVED),
+        (THREE, THREE_SOLVED),
+    ] {
         let (auction, _) = read_auction(alloc, text)?;
         let outcome = solve(alloc, &auction).ok().ok_or("memory")?;
         let printed = print_outcome(alloc, &auction, &outcome)

@@ -1,6 +1,7 @@
 mod AuctionTrails
 mod Causes
 mod FirstBidders
+mod FormerFormats
 mod NamedReasons
 mod PrintableWords
 mod PrintedRows

@@ -1,15 +1,18 @@
 -- What stands behind each status: what a text has or is where its command is done, where it isn't, and where it is refused.
 use Rattle.std.specs.Prelude.{◌≡◌, ◌<◌, ◌≤◌, ◌⊎◌, ℕ, List, length, Option, Some, None, Ok, IfSome, IsSomeAnd}
+use Rattle.mix_text.specs.Auctions.{AuctionText}
 use Rattle.mix_text.specs.declared.faults.Fault.{Fault}
 use Rattle.mix_text.specs.declared.faults.Limit.{Limit}
 use Rattle.mix_text.specs.declared.faults.TextError.TheVariants as error
+use Rattle.mix_answer.specs.declared.outcome.Outcome.{Outcome}
 use Rattle.product_mix.specs.Calls.{IsWrong}
 use Rattle.product_mix.specs.Checkings.{HasFalseOutcome, HasTrueOutcome}
 use Rattle.product_mix.specs.Outputs.{most_bytes}
 use Rattle.product_mix.specs.Refusals.{HasConvexLists, HasNonconvexList}
+use Rattle.product_mix.specs.Upgradings.{upgradable}
 use Rattle.product_mix.specs.Utilities.{utility_text}
 use Rattle.product_mix.specs.declared.words.Command.{Command}
-use Rattle.product_mix.specs.declared.words.Command.TheVariants.{Check, Prices, Solve, Trail, Utility, Validate}
+use Rattle.product_mix.specs.declared.words.Command.TheVariants.{Check, Prices, Solve, Trail, Upgrade, Utility, Validate}
 use Rattle.product_mix.specs.declared.words.Task.{Task}
 use Rattle.product_mix.specs.declared.words.Task.TheVariants.{OnText, Trial}
 
@@ -21,6 +24,7 @@ IsMet Prices text = HasConvexLists text
 IsMet Trail text = HasConvexLists text
 IsMet Solve text = HasConvexLists text
 IsMet Check text = HasTrueOutcome text
+IsMet Upgrade text = (a : AuctionText) × (outcome : Outcome) × (upgradable text ≡ Ok (a, outcome))
 
 -- a text is as the command wants it, but what the command asks isn't met: some list isn't convex, or the outcome isn't true
 abbrev pub IsUnmet : Command → List ℕ → Type 0
@@ -30,6 +34,7 @@ IsUnmet Prices text = HasNonconvexList text
 IsUnmet Trail text = HasNonconvexList text
 IsUnmet Solve text = HasNonconvexList text
 IsUnmet Check text = HasFalseOutcome text
+IsUnmet Upgrade text = ⊥
 
 -- a text has a fault before it passes a limit
 abbrev pub IsFaulty : Command → List ℕ → Type 0

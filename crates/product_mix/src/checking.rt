@@ -1,6 +1,7 @@
 // The command `check`: whether an outcome is true of its auction, and else the first reason why it isn't.
 ghost use Rattle.std.specs.Prelude.{◌≡◌, ◌<◌, ◌≤◌, length, Ok, IfOk, IfErr};
 ghost use Rattle.mix_text.specs.AuctionTexts.{auction_text};
+ghost use Rattle.mix_text.specs.Limits.{MeetsLimits};
 ghost use Rattle.mix_text.specs.Pages.{line_of};
 ghost use Rattle.mix_text.specs.Reading.{IsFromText};
 ghost use Rattle.mix_answer.specs.Shapes.{HasShape};
@@ -57,24 +58,36 @@ fn checked(alloc: Global, auction: &Auction, outcome: &Outcome) -> Result<Reply,
     }
 }
 
+/// Reads an auction and the outcome after it. The error is what is wrong first with the text; `Memory` may come in place of
+/// any answer.
+#[tactic(auto, unfolding(crate::specs::Checkings::auction_and_outcome))]
+pub fn read_both(alloc: Global, text: &[u8]) -> Result<(Auction, Outcome), TextError>
+    requires { length text.now ≤ 16777216 }
+    ensures read { IfOk result (λ both. auction_and_outcome text.now ≡ Ok (auction_text both.0, both.1)) }
+    ensures limits { IfOk result (λ both. MeetsLimits (auction_text both.0)) }
+    ensures shape { IfOk result (λ both. HasShape (auction_text both.0) both.1) }
+    ensures wrong { IfErr result (λ e. IsFromText (auction_and_outcome text.now) e) }
+{
+    let (auction, rest) = read_auction(alloc, text)?;
+    match read_outcome(alloc, &auction, &rest) {
+        Ok(outcome) => Ok((auction, outcome)),
+        Err(OutcomeError::Fault(fault)) => Err(TextError::Fault(fault)),
+        Err(OutcomeError::Memory) => Err(TextError::Memory),
+    }
+}
+
 /// Reads an auction and the outcome after it, and prints with status 0 `yes` where the outcome is true, else with status 1
 /// `no` and the first reason why it isn't.
 ///
 /// The error is what is wrong first with the text, which has at most 16,777,216 bytes; `Memory` may come in place of any
 /// answer.
-#[tactic(auto, unfolding(crate::specs::Checkings::auction_and_outcome))]
 pub fn print_check(alloc: Global, text: &[u8]) -> Result<Reply, TextError>
     requires { length text.now ≤ 16777216 }
     ensures done { IfOk result (λ reply. IsCheckingOf text.now (output_of reply)) }
     ensures status { IfOk result (λ reply. reply.status < 2) }
     ensures wrong { IfErr result (λ e. IsFromText (auction_and_outcome text.now) e) }
 {
-    let (auction, rest) = read_auction(alloc, text)?;
-    let outcome = match read_outcome(alloc, &auction, &rest) {
-        Ok(outcome) => outcome,
-        Err(OutcomeError::Fault(fault)) => return Err(TextError::Fault(fault)),
-        Err(OutcomeError::Memory) => return Err(TextError::Memory),
-    };
+    let (auction, outcome) = read_both(alloc, text)?;
     match checked(alloc, &auction, &outcome) {
         Ok(reply) => Ok(reply),
         Err(Memory) => Err(TextError::Memory),

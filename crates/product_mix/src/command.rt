@@ -16,6 +16,7 @@ use crate::reply::Reply;
 use crate::solution::print_solution;
 use crate::trail::print_trail;
 use crate::trial::trial_text;
+use crate::upgrading::print_upgrade;
 use crate::utility::print_utilities;
 use crate::validity::print_validity;
 use crate::words::{Command, Task};
@@ -72,6 +73,7 @@ fn done(alloc: Global, command: Command, text: &[u8]) -> Result<Reply, TextError
         Command::Trail => print_trail(alloc, text),
         Command::Solve => print_solution(alloc, text),
         Command::Check => print_check(alloc, text),
+        Command::Upgrade => print_upgrade(alloc, text),
     }
 }
 

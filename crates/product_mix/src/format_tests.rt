@@ -27,7 +27,7 @@ fn eight_goods(rt: HostRuntime) -> Result<(), Fail> {
     assert_eq!(rt; status, 0);
     assert!(rt;
         sink.bytes().starts_with(
-            b"outcome,1\ncleared\nprice,0,0,0,0,0,0,0,0\nshare,P,1,0,0,0,0,0,0,0,0\nreturn,0,1,1,1,1,1,1,1\ntight,P,A,"
+            b"outcome,2\norder,P\ncleared\nprice,0,0,0,0,0,0,0,0\nshare,P,1,0,0,0,0,0,0,0,0\nreturn,0,1,1,1,1,1,1,1\ntight,P,A,"
         )
     );
     assert!(rt; sink.bytes().ends_with(b"\nend\n"));
@@ -117,13 +117,13 @@ fn numbers_of_bids(rt: HostRuntime) -> Result<(), Fail> {
             b"bid,P,-1,5\n",
             13,
             1,
-            b"outcome,1\nrefused,P,-,A,5,-13\nend\n",
+            b"outcome,2\norder,P\nrefused,P,-,A,5,-13\nend\n",
         ),
         (
             b"bid,P,-1,5\n",
             400,
             1,
-            b"outcome,1\nrefused,P,-,A,5,-400\nend\n",
+            b"outcome,2\norder,P\nrefused,P,-,A,5,-400\nend\n",
         ),
         (b"bid,P,-1,5\n", 401, 4, b"limit,405,bids\n"),
         (b"bid,P,1,5\n", 401, 4, b"limit,405,bids\n"),
@@ -155,7 +155,7 @@ fn cells(rt: HostRuntime) -> Result<(), Fail> {
     seven.extend_from_slice(b"end\n")?;
     let (status, sink) = call(alloc, &["solve"], seven, Vec::new(alloc), 4096)?;
     assert_eq!(rt; status, 1);
-    assert!(rt; sink.bytes().starts_with(b"outcome,1\nrefused,P,"));
+    assert!(rt; sink.bytes().starts_with(b"outcome,2\norder,P\nrefused,P,"));
     let tails: [(&[u8], u8, &[u8]); 4] = [
         (b"", 4, b"limit,12,cells\n"),
         (b"end\n", 4, b"limit,12,cells\n"),

@@ -26,6 +26,7 @@ mod table_tests;
 mod tests;
 mod trail;
 mod trial;
+mod upgrading;
 mod utility;
 mod validity;
 mod words;

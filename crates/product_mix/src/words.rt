@@ -24,6 +24,8 @@ pub enum Command {
     Solve,
     /// Say whether an outcome is true, and else why it isn't.
     Check,
+    /// Write an auction of format 1 and its outcome in format 2.
+    Upgrade,
 }
 
 /// What the words ask for.
@@ -77,6 +79,8 @@ impl Command {
             Some(Command::Solve)
         } else if is_alone(words, "check") {
             Some(Command::Check)
+        } else if is_alone(words, "upgrade") {
+            Some(Command::Upgrade)
         } else {
             None
         }

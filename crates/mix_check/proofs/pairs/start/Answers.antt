@@ -40,11 +40,11 @@ loop-bits-preserved c =
     }
 
 pub returns-clause-value : goal.returns-clause-value
-returns-clause-value c = λ set h.
+returns-clause-value c = λ order ordered set h.
     let sets : 2 * c.sets_of-bits-end.result ≡ 2 ^ suc (length c.args.supply.now.items) = ap (λ (m : ℕ). 2 * m) (c.sets_of-bits-end.ensures.value ∙ ap (λ (k : ℕ). 2 ^ k) c.len-2.ensures.value) ∙ sym (pow-succ' 2 (length c.args.supply.now.items)) in
     let done = c.loop-bits.invariant.done set (omega (arith, h, sets)) in
     let near = c.null_of-null.ensures.range 2056000000
     (all-lies (length c.args.supply.now.items) c.args.tables.now c.requires.tables c.len.result c.whole-whole.result c.at.result c.at-2.result c.len.ensures.value c.whole-whole.ensures c.at.ensures.value c.at-2.ensures.value) in
     let same = null-same (length c.args.supply.now.items) c.args.tables.now c.requires.tables c.len.result c.whole-whole.result c.at.result c.at-2.result c.len.ensures.value c.whole-whole.ensures c.at.ensures.value c.at-2.ensures.value
-    c.args.supply.now.items c.null_of-null.result c.null_of-null.ensures.value near in
-    start-is (length c.args.supply.now.items) c.args.tables.now c.requires.tables c.args.supply.now.items set h _ _ done same
+    order ordered c.args.supply.now.items c.null_of-null.result c.null_of-null.ensures.value near in
+    start-is (length c.args.supply.now.items) c.args.tables.now order ordered c.requires.tables c.args.supply.now.items set h _ _ done same
