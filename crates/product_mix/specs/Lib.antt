@@ -10,5 +10,6 @@ pub mod Trailings
 pub mod Solvings
 pub mod Trialings
 pub mod Checkings
+pub mod Comparisons
 pub mod Calls
 pub mod Causes

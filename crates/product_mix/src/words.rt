@@ -24,6 +24,8 @@ pub enum Command {
     Solve,
     /// Say whether an outcome is true, and else why it isn't.
     Check,
+    /// Say of each bidder after the first whether its list has the first one's indirect utility at all whole prices.
+    Compare,
 }
 
 /// What the words ask for.
@@ -77,6 +79,8 @@ impl Command {
             Some(Command::Solve)
         } else if is_alone(words, "check") {
             Some(Command::Check)
+        } else if is_alone(words, "compare") {
+            Some(Command::Compare)
         } else {
             None
         }
