@@ -3,6 +3,7 @@ use Rattle.std.specs.Prelude.{◌≡◌, ◌≢◌, ◌<◌, ◌⊎◌, ℕ, Lis
 use Rattle.std.specs.declared.cmp.Ordering.TheVariants.{Less}
 use Rattle.mix_num.specs.Vectors.{Agree, Vector, members, minus, plus, with_null}
 use Rattle.mix_num.specs.Moves.{IsSetOfGoods}
+use Rattle.mix_num.specs.Ranges.{Lies}
 use Rattle.mix_bids.specs.Offers.{Offers}
 use Rattle.mix_bids.specs.Bids.{Book, utility}
 use Rattle.mix_bids.specs.declared.bid.Bid.{Bid}
@@ -26,13 +27,14 @@ IsNear a = (negsuc 1 ≤ℤ a) × (a ≤ℤ pos 1000001)
 abbrev pub AreAlikeNear : ℕ → List Bid → List Bid → Type 0
 AreAlikeNear n bs cs = (p : List ℤ) → length p ≡ n → All IsNear p → utility bs (with_null p) ≡ utility cs (with_null p)
 
--- prices from -2 to 1,000,001, and the utilities of the two lists there, which differ
+-- prices from -2 to 1,000,001, and the utilities of the two lists there, which differ; their size is at most 2 * 10^13
 pub record TellsApart (first second : Book) (prices : List ℤ) (a b : ℤ) : Type 0 where
   pub size : length prices ≡ first.goods
   pub near : All IsNear prices
   pub left : a ≡ utility first.bids (with_null prices)
   pub right : b ≡ utility second.bids (with_null prices)
   pub apart : a ≢ b
+  pub range : Lies 20000000000000 a × Lies 20000000000000 b
 
 -- what an answer says of the prices that it has, if it has any
 abbrev pub WhereDiffer : (List ℤ → ℤ → ℤ → Type 0) → Likeness → Type 0

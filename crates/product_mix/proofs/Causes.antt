@@ -23,7 +23,7 @@ use Rattle.product_mix.specs.Upgradings.{upgradable}
 use Rattle.product_mix.specs.Utilities.{utility_text}
 use Rattle.product_mix.specs.Refusals.{HasConvexLists, HasNonconvexList, IsRefusal}
 use Rattle.product_mix.specs.declared.words.Command.{Command}
-use Rattle.product_mix.specs.declared.words.Command.TheVariants.{Check, Prices, Solve, Trail, Upgrade, Utility, Validate}
+use Rattle.product_mix.specs.declared.words.Command.TheVariants.{Check, Compare, Prices, Solve, Trail, Upgrade, Utility, Validate}
 use Rattle.product_mix.specs.declared.words.Task.{Task}
 use Rattle.product_mix.specs.declared.words.Task.TheVariants.{OnText, Trial}
 
@@ -105,6 +105,11 @@ told Upgrade text output done = record {
   met = λ s. (done.0, done.1, done.2);
   unmet = λ s. absurd (omega (arith, s, status_of _ _ done.3));
   one = omega (arith, status_of _ _ done.3);
+}
+told Compare text output done = record {
+  met = λ s. (done.0, done.1);
+  unmet = λ s. absurd (omega (arith, s, status_of _ _ done.2.2));
+  one = omega (arith, status_of _ _ done.2.2);
 }
 
 -- ---- what is wrong with a text, by its status
@@ -219,6 +224,7 @@ one_wrong Trail text d e p q = one_error (auction_alone text) d e p q
 one_wrong Solve text d e p q = one_error (auction_alone text) d e p q
 one_wrong Check text d e p q = one_error (auction_and_outcome text) d e p q
 one_wrong Upgrade text d e p q = one_error (upgradable text) d e p q
+one_wrong Compare text d e p q = one_error (auction_alone text) d e p q
 
 not_done : (command : Command) (text : List ℕ) (e : TextError) (output : Output) → IsWrong command text e → IsDone command text output → ⊥
 not_done Utility text e output wrong done = clash (utility_text text) done.0 e done.1 wrong
@@ -228,6 +234,7 @@ not_done Trail text e output wrong done = clash (auction_alone text) done.0 e do
 not_done Solve text e output wrong done = clash (auction_alone text) done.0 e done.1 wrong
 not_done Check text e output wrong done = clash (auction_and_outcome text) (done.0, done.1) e done.2 wrong
 not_done Upgrade text e output wrong done = clash (upgradable text) (done.0, done.1) e done.2 wrong
+not_done Compare text e output wrong done = clash (auction_alone text) done.0 e done.1 wrong
 
 -- nor is what the command asks met, nor not met
 not_met : (command : Command) (text : List ℕ) (e : TextError) → IsWrong command text e → IsMet command text → ⊥
@@ -238,6 +245,7 @@ not_met Trail text e wrong met = clash (auction_alone text) met.0 e met.1 wrong
 not_met Solve text e wrong met = clash (auction_alone text) met.0 e met.1 wrong
 not_met Check text e wrong met = clash (auction_and_outcome text) (met.0, met.1) e met.2 wrong
 not_met Upgrade text e wrong met = clash (upgradable text) (met.0, met.1) e met.2 wrong
+not_met Compare text e wrong met = clash (auction_alone text) met.0 e met.1 wrong
 
 not_unmet : (command : Command) (text : List ℕ) (e : TextError) → IsWrong command text e → IsUnmet command text → ⊥
 not_unmet Utility text e wrong unmet = unmet
@@ -247,6 +255,7 @@ not_unmet Trail text e wrong unmet = clash (auction_alone text) unmet.0 e unmet.
 not_unmet Solve text e wrong unmet = clash (auction_alone text) unmet.0 e unmet.1 wrong
 not_unmet Check text e wrong unmet = clash (auction_and_outcome text) (unmet.0, unmet.1) e unmet.2 wrong
 not_unmet Upgrade text e wrong unmet = unmet
+not_unmet Compare text e wrong unmet = unmet
 
 -- and it isn't both
 opposed_lists : (text : List ℕ) → HasConvexLists text → HasNonconvexList text → ⊥
@@ -264,6 +273,7 @@ opposed Upgrade text met unmet = unmet
 opposed Check text met unmet =
     let same = one_value (auction_and_outcome text) (met.0, met.1) (unmet.0, unmet.1) met.2 unmet.2 in
     unmet.3 (subst (λ (p : AuctionText × Outcome). IsTrueOutcome p.0 p.1) same met.3)
+opposed Compare text met unmet = unmet
 
 -- so what a text has decides the status of the output
 abbrev Decides : ℕ → (Command → List ℕ → Type 0) → Type 0

@@ -4,6 +4,7 @@ use Rattle.std.specs.Io.KnownBytes.{Appends, Consumes}
 use Rattle.mix_io.specs.Given.{AppendsPrefix}
 use Rattle.mix_text.specs.declared.faults.TextError.{TextError}
 use Rattle.product_mix.specs.Checkings.{IsCheckingOf, auction_and_outcome}
+use Rattle.product_mix.specs.Comparisons.{IsComparisonOf}
 use Rattle.product_mix.specs.Outputs.{Output, most_bytes, refusal, too_long, unknown_words, unread}
 use Rattle.product_mix.specs.Pricings.{IsPricingOf}
 use Rattle.product_mix.specs.Readings.{auction_alone}
@@ -14,7 +15,7 @@ use Rattle.product_mix.specs.Upgradings.{IsUpgradingOf, upgradable}
 use Rattle.product_mix.specs.Utilities.{utility_text}
 use Rattle.product_mix.specs.Validities.{IsValidityOf}
 use Rattle.product_mix.specs.declared.words.Command.{Command}
-use Rattle.product_mix.specs.declared.words.Command.TheVariants.{Check, Prices, Solve, Trail, Upgrade, Utility, Validate}
+use Rattle.product_mix.specs.declared.words.Command.TheVariants.{Check, Compare, Prices, Solve, Trail, Upgrade, Utility, Validate}
 use Rattle.product_mix.specs.declared.words.Task.{Task}
 use Rattle.product_mix.specs.declared.words.Task.TheVariants.{OnText, Trial}
 
@@ -27,6 +28,7 @@ IsWrong Trail text e = auction_alone text ≡ Err e
 IsWrong Solve text e = auction_alone text ≡ Err e
 IsWrong Check text e = auction_and_outcome text ≡ Err e
 IsWrong Upgrade text e = upgradable text ≡ Err e
+IsWrong Compare text e = auction_alone text ≡ Err e
 
 -- a text is as the command wants it, and this comes of it
 abbrev pub IsDone : Command → List ℕ → Output → Type 0
@@ -37,6 +39,7 @@ IsDone Trail text output = IsTrailingOf text output
 IsDone Solve text output = IsSolvingOf text output
 IsDone Check text output = IsCheckingOf text output
 IsDone Upgrade text output = IsUpgradingOf text output
+IsDone Compare text output = IsComparisonOf text output
 
 -- a text is refused, and this comes of it: what is wrong first, whatever the command
 abbrev pub IsRefused : Command → List ℕ → Output → Type 0

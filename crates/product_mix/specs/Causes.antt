@@ -7,12 +7,13 @@ use Rattle.mix_text.specs.declared.faults.TextError.TheVariants as error
 use Rattle.mix_answer.specs.declared.outcome.Outcome.{Outcome}
 use Rattle.product_mix.specs.Calls.{IsWrong}
 use Rattle.product_mix.specs.Checkings.{HasFalseOutcome, HasTrueOutcome}
+use Rattle.product_mix.specs.Comparisons.{HasAuction}
 use Rattle.product_mix.specs.Outputs.{most_bytes}
 use Rattle.product_mix.specs.Refusals.{HasConvexLists, HasNonconvexList}
 use Rattle.product_mix.specs.Upgradings.{upgradable}
 use Rattle.product_mix.specs.Utilities.{utility_text}
 use Rattle.product_mix.specs.declared.words.Command.{Command}
-use Rattle.product_mix.specs.declared.words.Command.TheVariants.{Check, Prices, Solve, Trail, Upgrade, Utility, Validate}
+use Rattle.product_mix.specs.declared.words.Command.TheVariants.{Check, Compare, Prices, Solve, Trail, Upgrade, Utility, Validate}
 use Rattle.product_mix.specs.declared.words.Task.{Task}
 use Rattle.product_mix.specs.declared.words.Task.TheVariants.{OnText, Trial}
 
@@ -25,6 +26,7 @@ IsMet Trail text = HasConvexLists text
 IsMet Solve text = HasConvexLists text
 IsMet Check text = HasTrueOutcome text
 IsMet Upgrade text = (a : AuctionText) × (outcome : Outcome) × (upgradable text ≡ Ok (a, outcome))
+IsMet Compare text = HasAuction text
 
 -- a text is as the command wants it, but what the command asks isn't met: some list isn't convex, or the outcome isn't true
 abbrev pub IsUnmet : Command → List ℕ → Type 0
@@ -35,6 +37,7 @@ IsUnmet Trail text = HasNonconvexList text
 IsUnmet Solve text = HasNonconvexList text
 IsUnmet Check text = HasFalseOutcome text
 IsUnmet Upgrade text = ⊥
+IsUnmet Compare text = ⊥
 
 -- a text has a fault before it passes a limit
 abbrev pub IsFaulty : Command → List ℕ → Type 0

@@ -11,5 +11,6 @@ pub mod Solvings
 pub mod Trialings
 pub mod Checkings
 pub mod Upgradings
+pub mod Comparisons
 pub mod Calls
 pub mod Causes

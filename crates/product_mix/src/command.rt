@@ -10,6 +10,7 @@ ghost use Rattle.product_mix.specs.Causes.{Has, IsFaulty, IsMet, IsTooMuch, IsUn
 ghost use Rattle.product_mix.specs.Words.{task_of};
 
 use crate::checking::print_check;
+use crate::comparison::print_comparison;
 use crate::prices::print_prices;
 use crate::refusal::refused;
 use crate::reply::Reply;
@@ -74,6 +75,13 @@ fn done(alloc: Global, command: Command, text: &[u8]) -> Result<Reply, TextError
         Command::Solve => print_solution(alloc, text),
         Command::Check => print_check(alloc, text),
         Command::Upgrade => print_upgrade(alloc, text),
+        Command::Compare => {
+            let bytes = print_comparison(alloc, text)?;
+            Ok(Reply {
+                status: DONE,
+                bytes,
+            })
+        }
     }
 }
 

@@ -4,6 +4,9 @@
 mod alone;
 mod checking;
 mod command;
+mod comparison;
+#[cfg(test)]
+mod comparison_tests;
 #[cfg(test)]
 mod counted_tests;
 #[cfg(test)]

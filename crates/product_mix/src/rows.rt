@@ -1,8 +1,9 @@
 // The rows that the program prints, one function for each kind.
 ghost use Rattle.std.specs.Prelude.{◌≡◌, ◌<◌, ◌++◌, ◌∷◌, [], codes, decimal, length, OnOk};
 ghost use Rattle.mix_num.specs.Ranges.{ArePrices};
-ghost use Rattle.mix_text.specs.Bidders.{bidder_at};
+ghost use Rattle.mix_text.specs.Bidders.{bidder_at, name_at};
 ghost use Rattle.mix_text.specs.Pages.{line_of};
+ghost use Rattle.product_mix.specs.Comparisons.{differ_row, same_row};
 ghost use Rattle.product_mix.specs.Outputs.{fault_row, limit_row};
 ghost use Rattle.product_mix.specs.Pricings.{price_row};
 ghost use Rattle.product_mix.specs.Trailings.{step_row};
@@ -81,6 +82,39 @@ pub fn add_valid(page: &mut Page, auction: &Auction, k: usize) -> Result<(), Mem
     page.text(b"valid")?;
     add_bidder(page, auction, k)?;
     page.number(total)?;
+    page.end_row()
+}
+
+/// Adds the row of the bidder at a place, from 0, whose list has the first one's indirect utility.
+pub fn add_same(page: &mut Page, auction: &Auction, k: usize) -> Result<(), Memory>
+    requires closed { page.old.fields ≡ [] }
+    requires place { k < length auction.now.bidders }
+    ensures { OnOk result (page.new ≡ record { ended = page.old.ended ++ line_of (same_row (name_at auction.now.bidders k)); fields = [] }) }
+{
+    page.text(b"same")?;
+    add_bidder(page, auction, k)?;
+    page.end_row()
+}
+
+/// Adds the row of the bidder at a place, from 0, whose list differs from the first one at the prices: the prices, and the
+/// utilities of the first list and of its own there.
+pub fn add_differ(
+    page: &mut Page,
+    auction: &Auction,
+    k: usize,
+    prices: &Prices,
+    first: i64,
+    own: i64,
+) -> Result<(), Memory>
+    requires closed { page.old.fields ≡ [] }
+    requires place { k < length auction.now.bidders }
+    ensures { OnOk result (page.new ≡ record { ended = page.old.ended ++ line_of (differ_row (name_at auction.now.bidders k) prices.now.items first own); fields = [] }) }
+{
+    page.text(b"differ")?;
+    add_bidder(page, auction, k)?;
+    page.numbers(prices)?;
+    page.number(first)?;
+    page.number(own)?;
     page.end_row()
 }
 

@@ -26,6 +26,8 @@ pub enum Command {
     Check,
     /// Write an auction of format 1 and its outcome in format 2.
     Upgrade,
+    /// Say of each bidder after the first whether its list has the first one's indirect utility at all whole prices.
+    Compare,
 }
 
 /// What the words ask for.
@@ -81,6 +83,8 @@ impl Command {
             Some(Command::Check)
         } else if is_alone(words, "upgrade") {
             Some(Command::Upgrade)
+        } else if is_alone(words, "compare") {
+            Some(Command::Compare)
         } else {
             None
         }
