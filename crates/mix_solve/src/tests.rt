@@ -37,7 +37,8 @@ const TIED_SOLVED: &[u8] =
     b"outcome,1\ncleared\nprice,0,0\nshare,P,1,0,0\nshare,Q,0,1,0\nreturn,0,0\ntight,P,A,2,0\ntight,P,B,6,0\ntight,Q,A,7,5\ntight,Q,B,4,0\nend\n";
 
 // The same two, of whom Q is served first.
-const SERVED_LAST_FIRST: &[u8] = b"mix,2\ngoods,A,B\nsupply,1,1\nreserve,0,0\nbid,P,1,5,5\nbid,Q,1,5,5\norder,Q,P\nend\n";
+const SERVED_LAST_FIRST: &[u8] =
+    b"mix,2\ngoods,A,B\nsupply,1,1\nreserve,0,0\nbid,P,1,5,5\nbid,Q,1,5,5\norder,Q,P\nend\n";
 
 // So Q gets the first good, and P the second.
 const SERVED_LAST_FIRST_SOLVED: &[u8] =
