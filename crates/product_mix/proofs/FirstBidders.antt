@@ -1,10 +1,9 @@
 -- What is known of the list of an auction's first bidder: its goods are those of the auction, and the reserves are prices of them.
-use Rattle.std.proofs.Common.{◌≡◌, ◌∙◌, ◌<◌, ℕ, ℤ, List, [], length, arith, sym, subst}
+use Rattle.std.proofs.Common.{◌≡◌, ◌∙◌, ◌<◌, [], length, arith, sym}
 use Rattle.std.proofs.lemmas.Int.{ints}
 use Rattle.std.proofs.lemmas.List.Elements.{All-weaker}
 use Rattle.mix_num.specs.Ranges.{HaveRoom, Lies}
 use Rattle.mix_num.specs.Sellers.{IsAmount}
-use Rattle.mix_bids.specs.Bids.{Book}
 use Rattle.mix_text.specs.Auctions.{AuctionText, IsAuction}
 use Rattle.mix_text.specs.Bidders.{list_at}
 
