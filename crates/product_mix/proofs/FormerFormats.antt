@@ -1,5 +1,5 @@
 -- An auction that is read of a text whose first row names format 1 has format 1.
-use Rattle.std.proofs.Common.{◌≡◌, ◌∙◌, sym, ap, ℕ, pos, ◌+◌, List, [], ◌∷◌, length, drop, true, false, Bool, Result, Ok, Err, refl, arith, subst, nat_lt}
+use Rattle.std.proofs.Common.{◌≡◌, ◌∙◌, sym, ap, ℕ, pos, ◌+◌, List, [], ◌∷◌, length, drop, true, false, Bool, Result, Ok, refl, arith, subst, nat_lt}
 use Rattle.std.specs.Prelude.{◌&&◌, ◌==◌, codes}
 use Rattle.std.specs.Str.{bytes_eq}
 use Rattle.std.proofs.lemmas.Bool.Decides.{nat_tests}
@@ -10,7 +10,6 @@ use Rattle.mix_text.specs.Rows.{RestText, RowText, rows_of}
 use Rattle.mix_text.specs.declared.faults.Code.TheVariants as code
 use Rattle.mix_text.proofs.Sound.{then_ok}
 use Rattle.mix_text.proofs.SoundAuctions.{placed_ok}
-use Rattle.mix_text.specs.declared.faults.TextError.{TextError}
 use Rattle.mix_answer.specs.Readings.{outcome_after}
 use Rattle.mix_answer.specs.declared.outcome.Outcome.{Outcome}
 use Rattle.product_mix.specs.Checkings.{auction_and_outcome, or_wrong}

@@ -29,6 +29,8 @@ mod table_tests;
 mod tests;
 mod trail;
 mod trial;
+#[cfg(test)]
+mod upgrade_tests;
 mod upgrading;
 mod utility;
 mod validity;
