@@ -139,16 +139,35 @@ fn other_order_and_nothing_more(rt: HostRuntime) -> Result<(), Fail> {
     Ok(())
 }
 
+/// Two units of one good at 5 each.
+fn fives(alloc: Global) -> Result<BidList, Memory>
+    ensures { IfOk result (λ list. list.goods ≡ 1) }
+{
+    pair(alloc, 1, single(1, 5), single(1, 5))
+}
+
 #[test]
 fn one_good(rt: HostRuntime) -> Result<(), Fail> {
-    let first = pair(rt.alloc(), 1, single(1, 5), single(1, 5))?;
+    let first = fives(rt.alloc())?;
     let mut second = BidList::new(rt.alloc(), 1);
     add(&mut second, single(2, 5))?;
     assert!(rt; matches!(same(rt.alloc(), &first, &second)?, Likeness::Equal));
     let nothing = pair(rt.alloc(), 1, single(1, 7), single(-1, 7))?;
     assert!(rt; tells(&same(rt.alloc(), &first, &nothing)?, &[-1], 12, 0));
+    Ok(())
+}
+
+#[test]
+fn more_units_of_one_good(rt: HostRuntime) -> Result<(), Fail> {
+    let first = fives(rt.alloc())?;
     let more = pair(rt.alloc(), 1, single(2, 2), single(1, 5))?;
     assert!(rt; tells(&same(rt.alloc(), &first, &more)?, &[-2], 14, 15));
+    Ok(())
+}
+
+#[test]
+fn other_values_of_one_good(rt: HostRuntime) -> Result<(), Fail> {
+    let first = fives(rt.alloc())?;
     let near = pair(rt.alloc(), 1, single(1, 4), single(1, 6))?;
     assert!(rt; tells(&same(rt.alloc(), &first, &near)?, &[5], 0, 1));
     let far = pair(rt.alloc(), 1, single(1, 3), single(1, 7))?;
@@ -156,24 +175,29 @@ fn one_good(rt: HostRuntime) -> Result<(), Fail> {
     Ok(())
 }
 
+// Nothing stands before every number: the first vector is (-, 5).
 #[test]
-fn round_the_first_vector(rt: HostRuntime) -> Result<(), Fail> {
+fn a_good_left_out_comes_first(rt: HostRuntime) -> Result<(), Fail> {
     let fives = pair(
         rt.alloc(),
         2,
         bid(1, Some(5), Some(5)),
         bid(1, Some(5), Some(5)),
     )?;
+    let apart = pair(rt.alloc(), 2, bid(1, None, Some(5)), bid(1, Some(5), None))?;
+    assert!(rt; tells(&same(rt.alloc(), &apart, &fives)?, &[-1, 5], 6, 12));
+    Ok(())
+}
+
+// The lists agree at (5, 5), and where the price of one good is another.
+#[test]
+fn both_goods_at_once(rt: HostRuntime) -> Result<(), Fail> {
     let sixes = pair(
         rt.alloc(),
         2,
         bid(1, Some(6), Some(6)),
         bid(1, Some(6), Some(6)),
     )?;
-    // Nothing stands before every number: the first vector is (-, 5).
-    let apart = pair(rt.alloc(), 2, bid(1, None, Some(5)), bid(1, Some(5), None))?;
-    assert!(rt; tells(&same(rt.alloc(), &apart, &fives)?, &[-1, 5], 6, 12));
-    // The lists agree at (5, 5), and where the price of one good is another.
     let wide = pair(
         rt.alloc(),
         2,
@@ -181,7 +205,12 @@ fn round_the_first_vector(rt: HostRuntime) -> Result<(), Fail> {
         bid(1, Some(7), Some(7)),
     )?;
     assert!(rt; tells(&same(rt.alloc(), &wide, &sixes)?, &[6, 6], 1, 0));
-    // They agree where the first good's price is one more.
+    Ok(())
+}
+
+// They agree where the first good's price is one more.
+#[test]
+fn one_good_lower(rt: HostRuntime) -> Result<(), Fail> {
     let second = pair(
         rt.alloc(),
         2,
