@@ -153,7 +153,8 @@ order_lines a is = elim (cases_Bool (has_order a.format)) [
   | inr f ↦ rw f (All-nil IsLine)
 ]
 
-outcome_lines : (a : AuctionText) (outcome : Outcome) → IsAuction a → HasShape a outcome → list_all is_printable_row (outcome_rows a outcome) ≡ true
+-- each row of an outcome may be printed
+pub outcome_lines : (a : AuctionText) (outcome : Outcome) → IsAuction a → HasShape a outcome → list_all is_printable_row (outcome_rows a outcome) ≡ true
 outcome_lines a outcome is shape = all_pass is_printable_row (outcome_rows a outcome)
     (All-cons IsLine (head_row a.format) (order_rows a ++ (inner_rows a outcome ++ end_row ∷ [])) (head_line a.format)
     (All-append IsLine (order_rows a) (inner_rows a outcome ++ end_row ∷ []) (order_lines a is)
@@ -161,7 +162,8 @@ outcome_lines a outcome is shape = all_pass is_printable_row (outcome_rows a out
 
 -- ---- texts
 
-lines_numbered : (k : ℕ) (lines : List (List (List ℕ))) → lines_of (numbered k lines) ≡ lines
+-- numbered rows keep their fields
+pub lines_numbered : (k : ℕ) (lines : List (List (List ℕ))) → lines_of (numbered k lines) ≡ lines
 lines_numbered k [] = refl
 lines_numbered k (fields ∷ lines) = ap (λ (rest : List (List (List ℕ))). fields ∷ rest) (lines_numbered (k + 1) lines)
 

@@ -1,10 +1,10 @@
 mod PrintedBids
-mod PrintedAuctions
+pub mod PrintedAuctions
 mod ReadFields
 mod ReadBids
 mod ReadOrders
 mod GatheredBids
-mod ReadAuctions
+pub mod ReadAuctions
 mod GeneratorWords
 mod DrawnTurns
 mod TrialBids

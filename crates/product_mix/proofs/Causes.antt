@@ -27,7 +27,7 @@ use Rattle.product_mix.specs.declared.words.Command.TheVariants.{Check, Compare,
 use Rattle.product_mix.specs.declared.words.Task.{Task}
 use Rattle.product_mix.specs.declared.words.Task.TheVariants.{OnText, Trial}
 
-status_of : (a b : Output) → a ≡ b → a.status ≡ b.status
+pub status_of : (a b : Output) → a ≡ b → a.status ≡ b.status
 status_of a b e = ap (λ (o : Output). o.status) e
 
 -- ---- what a text comes to where the command is done, by its status
@@ -113,7 +113,7 @@ told Compare text output done = record {
 }
 
 -- ---- what is wrong with a text, by its status
-refusal_low : (e : TextError) → 2 < (refusal e).status
+pub refusal_low : (e : TextError) → 2 < (refusal e).status
 refusal_low (error.Fault fault) = omega arith
 refusal_low (error.Limit limit) = omega arith
 refusal_low error.Memory = omega arith

@@ -36,7 +36,7 @@ head_one fields number format first read =
     let one : 1 ≡ format = cc q in
     sym one
 
-ok_same : {X E : Type 0} (x y : X) → ◌≡◌ {A = Result X E} (Ok x) (Ok y) → x ≡ y
+pub ok_same : {X E : Type 0} (x y : X) → ◌≡◌ {A = Result X E} (Ok x) (Ok y) → x ≡ y
 ok_same x y e = cc e
 
 first_there : (row : RowText) (rows : List RowText) → row_at (row ∷ rows) 0 ≡ Ok row

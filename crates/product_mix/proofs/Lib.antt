@@ -10,3 +10,8 @@ mod ReadPrices
 mod SoldUnits
 mod Taken
 mod TrialOutputs
+mod LongerTexts
+mod SameVerdicts
+mod SoundReadings
+mod UpgradedSizes
+mod UpgradedTexts

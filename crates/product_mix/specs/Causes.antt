@@ -1,14 +1,15 @@
 -- What stands behind each status: what a text has or is where its command is done, where it isn't, and where it is refused.
-use Rattle.std.specs.Prelude.{◌≡◌, ◌<◌, ◌≤◌, ◌⊎◌, ℕ, List, length, Option, Some, None, Ok, IfSome, IsSomeAnd}
+use Rattle.std.specs.Prelude.{◌≡◌, ◌<◌, ◌≤◌, ◌⊎◌, ◌↔◌, ℕ, List, length, Option, Some, None, Ok, IfSome, IsSomeAnd}
+use Rattle.std.specs.Io.KnownBytes.{Appends}
 use Rattle.mix_text.specs.Auctions.{AuctionText}
 use Rattle.mix_text.specs.declared.faults.Fault.{Fault}
 use Rattle.mix_text.specs.declared.faults.Limit.{Limit}
 use Rattle.mix_text.specs.declared.faults.TextError.TheVariants as error
 use Rattle.mix_answer.specs.declared.outcome.Outcome.{Outcome}
-use Rattle.product_mix.specs.Calls.{IsWrong}
+use Rattle.product_mix.specs.Calls.{IsOutput, IsWrong}
 use Rattle.product_mix.specs.Checkings.{HasFalseOutcome, HasTrueOutcome}
 use Rattle.product_mix.specs.Comparisons.{HasAuction}
-use Rattle.product_mix.specs.Outputs.{most_bytes}
+use Rattle.product_mix.specs.Outputs.{Output, most_bytes}
 use Rattle.product_mix.specs.Refusals.{HasConvexLists, HasNonconvexList}
 use Rattle.product_mix.specs.Upgradings.{upgradable}
 use Rattle.product_mix.specs.Utilities.{utility_text}
@@ -62,3 +63,7 @@ abbrev pub Shows : (Command → List ℕ → Type 0) → Type 0 → Option Task 
 Shows test trial None text = ⊥
 Shows test trial (Some (OnText command)) text = IsSomeAnd text (λ bytes. test command bytes)
 Shows test trial (Some (Trial number)) text = trial
+
+-- what was written after the bytes taken is checked as the text, where that is told: `check` may give of the one what it may give of the other
+abbrev pub AreCheckedAlike : Option (List ℕ) → Option (List ℕ) → Option (List ℕ) → Type 0
+AreCheckedAlike text taken now = IfSome text (λ bytes. (written : List ℕ) × Appends taken now written × ((reply : Output) → IsOutput Check bytes reply ↔ IsOutput Check written reply))

@@ -6,7 +6,7 @@ ghost use Rattle.mix_io.specs.Causes.{Rose};
 ghost use Rattle.mix_io.specs.Given.{IsLonger};
 ghost use Rattle.product_mix.specs.Replies.{output_of};
 ghost use Rattle.product_mix.specs.Calls.{IsAnswered, IsDone, IsOutput, IsWritten, IsWrong, Reads, TakesAtMost, WritesFor, WritesTrial};
-ghost use Rattle.product_mix.specs.Causes.{Has, IsFaulty, IsMet, IsTooMuch, IsUnmet, Shows, Within};
+ghost use Rattle.product_mix.specs.Causes.{AreCheckedAlike, Has, IsFaulty, IsMet, IsTooMuch, IsUnmet, Shows, Within};
 ghost use Rattle.product_mix.specs.Words.{task_of};
 
 use crate::checking::print_check;
@@ -212,6 +212,9 @@ pub fn run<I: Source, K: Sink>(alloc: Global, words: &[String], input: &mut I, o
     ensures when_unmet { Shows (Within IsUnmet) ⊥ (task_of (map (λ w. string_bytes w) words.now)) (I.left input.old) → ¬ Rose (I.faults input.old) (I.faults input.new) → ¬ Rose (K.faults output.old) (K.faults output.new) → result ≢ 7 → result ≡ 1 }
     ensures when_faulty { Shows (Within IsFaulty) ⊥ (task_of (map (λ w. string_bytes w) words.now)) (I.left input.old) → ¬ Rose (I.faults input.old) (I.faults input.new) → ¬ Rose (K.faults output.old) (K.faults output.new) → result ≢ 7 → result ≡ 3 }
     ensures when_too_much { Shows IsTooMuch ⊥ (task_of (map (λ w. string_bytes w) words.now)) (I.left input.old) → ¬ Rose (I.faults input.old) (I.faults input.new) → ¬ Rose (K.faults output.old) (K.faults output.new) → result ≢ 7 → result ≡ 4 }
+
+    // What `upgrade` writes is checked as what it read.
+    ensures alike { task_of (map (λ w. string_bytes w) words.now) ≡ Some (Task.OnText Command.Upgrade) → result ≡ 0 → AreCheckedAlike (I.left input.old) (K.taken output.old) (K.taken output.new) }
 
     // No fault of a device is passed over.
     ensures quiet_output { result ≢ 6 → K.faults output.new ≡ K.faults output.old }
