@@ -10,7 +10,7 @@ use mix_demand::Rho;
 use mix_descent::descend;
 use mix_law::Convex;
 use mix_market::{Market, Seller};
-use mix_num::{Bundle, Prices, Set, SetTable};
+use mix_num::{Bundle, Memory, Prices, Set, SetTable};
 use mix_step::{Steps, least_step};
 use mix_text::Auction;
 use mix_trial::make;
@@ -117,14 +117,22 @@ fn one(amount: i64) -> Bundle
     bundle
 }
 
-/// A bidder for one unit of one good at up to the greatest value.
-fn keen_bidder(alloc: Global) -> Result<Counted<ValidList>, Fail>
-    ensures { IfOk result (λ bidder. (book_of bidder.member).goods ≡ 1) }
+/// One unit of one good at up to the greatest value.
+fn keen_list(alloc: Global) -> Result<BidList, Memory>
+    ensures { IfOk result (λ list. list.goods ≡ 1) }
 {
     let mut values = Values::new();
     values.push(Some(1_000_000));
     let mut list = BidList::new(alloc, 1);
-    list.push(Bid { weight: 1, values }).ok().ok_or("memory")?;
+    list.push(Bid { weight: 1, values })?;
+    Ok(list)
+}
+
+/// A bidder with that list.
+fn keen_bidder(alloc: Global) -> Result<Counted<ValidList>, Fail>
+    ensures { IfOk result (λ bidder. (book_of bidder.member).goods ≡ 1) }
+{
+    let list = keen_list(alloc).ok().ok_or("memory")?;
     Ok(unasked(validate(alloc, list).ok().ok_or("not convex")?))
 }
 
