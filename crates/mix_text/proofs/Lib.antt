@@ -9,6 +9,8 @@ pub mod Records
 pub mod Spellings
 mod Turns
 pub mod Gathering
+pub mod NoCaps
+pub mod CapsRead
 pub mod Bids
 mod Keys
 pub mod FormatLimits

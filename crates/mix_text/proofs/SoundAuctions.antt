@@ -20,9 +20,10 @@ use Rattle.mix_num.specs.Sellers.{AreAmounts}
 use Rattle.mix_text.specs.Auctions.{AuctionText, IsAuction, IsBook}
 use Rattle.mix_text.specs.Orders.{IsTieOrder}
 use Rattle.mix_text.specs.Bidders.{with_bid}
+use Rattle.mix_text.specs.Caps.{AreCaps, no_caps}
 use Rattle.mix_text.specs.Formats.{AreLimits, IsFormat, is_past, limits_of}
 use Rattle.mix_text.specs.Limits.{BidsMeet, MeetsLimits}
-use Rattle.mix_text.specs.Reading.{◌>>=◌, NamedBid, begins, bid_row_of, bidders_of, bids_from, bids_under, end_from, ends_bids, field_at, format_of, goods_at, goods_form_of, goods_row_of, header_of, holds, is_negative, limit_of, list_limit_of, list_under, ReadsBids, names_after, names_of, numbers_of, order_from, past_goods, placed, read_at, reading_of, row_at, unless_past}
+use Rattle.mix_text.specs.Reading.{◌>>=◌, NamedBid, begins, bid_row_of, bidders_of, bids_from, bids_under, caps_from, end_from, ends_bids, field_at, format_of, goods_at, goods_form_of, goods_row_of, header_of, holds, is_negative, limit_of, list_limit_of, list_under, ReadsBids, names_after, names_of, numbers_of, order_from, past_goods, placed, read_at, reading_of, row_at, unless_past}
 use Rattle.mix_text.specs.declared.faults.Code.{Code}
 use Rattle.mix_text.specs.declared.faults.Code.TheVariants as code
 use Rattle.mix_text.specs.declared.faults.TextError.{TextError}
@@ -271,12 +272,29 @@ each_list n bids P h =
     All-map (λ (bidder : List ℕ × Book). P bidder.1) (λ (name : List ℕ). (name, list_under n name bids)) (different (names_of bids))
     (each_among (λ name. P (list_under n name bids)) (different (names_of bids)) (names_of bids) (λ m a. sym (among_different m (names_of bids)) ∙ a) h)
 
+-- the bidders of few bids have lists within the limits
+books_ok : (limits : Limits) (n : ℕ) (bids : List NamedBid) → AreLimits limits → AreFew limits n bids → All (λ (bidder : List ℕ × Book). IsBook n bidder.1) (bidders_of n bids)
+books_ok limits n bids are few = each_list n bids (IsBook n) (λ m a. record {
+  goods = refl;
+  some = bids_under_some m bids a;
+  few = let h = (few.under m).bids in let most = are.bids in omega arith;
+  bids = bids_of_name n m bids few.each;
+})
+
+-- so have those of bids that are read
+pub books_read : (format : ℕ) (limits : Limits) (n : ℕ) (rows : List RowText) (bidders : List (List ℕ × Book)) (place : ℕ) → AreLimits limits → ReadsBids format limits n rows bidders place
+    → All (λ (bidder : List ℕ × Book). IsBook n bidder.1) bidders
+books_read format limits n rows bidders place are read =
+    let few = bids_ok format limits n [] (drop 4 rows) (read.bids, drop place rows) read.read (none_yet limits n) in
+    subst (λ (z : List (List ℕ × Book)). All (λ bidder. IsBook n bidder.1) z) (sym read.gathered) (books_ok limits n read.bids are few)
+
 -- the bidders of few bids make an auction with goods and amounts
-pub made : (format : ℕ) (limits : Limits) (goods : List (List ℕ)) (supply reserve : List ℤ) (bids : List NamedBid) (order : List ℕ) → IsFormat format → AreLimits limits
+pub made : (format : ℕ) (limits : Limits) (goods : List (List ℕ)) (supply reserve : List ℤ) (bids : List NamedBid) (caps : List (Option ℤ)) (order : List ℕ) → IsFormat format → AreLimits limits
     → AreGoods limits goods → AreAmounts (length goods) supply → AreAmounts (length goods) reserve → AreFew limits (length goods) bids
+    → AreCaps (bidders_of (length goods) bids) caps → (format ≤ 2 → caps ≡ no_caps (length (bidders_of (length goods) bids)))
     → IsTieOrder (length (bidders_of (length goods) bids)) order → (format ≡ 1 → order ≡ places (length (bidders_of (length goods) bids)))
-    → IsAuction (record { format = format; goods = goods; supply = supply; reserve = reserve; bidders = bidders_of (length goods) bids; order = order })
-made format limits goods supply reserve bids order is are g s r few ordered first =
+    → IsAuction (record { format = format; goods = goods; supply = supply; reserve = reserve; bidders = bidders_of (length goods) bids; caps = caps; order = order })
+made format limits goods supply reserve bids caps order is are g s r few capped uncapped ordered first =
     let n = length goods in
     let names = names_same n bids in
     record {
@@ -291,14 +309,11 @@ made format limits goods supply reserve bids order is are g s r few ordered firs
         unlike = different_same (different (names_of bids)) (different_unlike (names_of bids));
       });
       few_bidders = let h = few.names in let l = bidders_length n bids in let most = are.bidders in omega arith;
-      books = each_list n bids (IsBook n) (λ m a. record {
-        goods = refl;
-        some = bids_under_some m bids a;
-        few = let h = (few.under m).bids in let most = are.bids in omega arith;
-        bids = bids_of_name n m bids few.each;
-      });
+      books = books_ok limits n bids are few;
+      caps = capped;
       order = ordered;
       first_format = first;
+      uncapped = uncapped;
     }
 
 -- the format that is read is one
@@ -307,7 +322,10 @@ format_ok field format e = elim (cases_Bool (bytes_eq field (codes "1"))) [
   | inl t ↦ (let q = rw t at e in let one : 1 ≡ format = cc q in (omega arith, omega arith))
   | inr f ↦ (let q = rw f at e in elim (cases_Bool (bytes_eq field (codes "2"))) [
     | inl u ↦ (let p = rw u at q in let two : 2 ≡ format = cc p in (omega arith, omega arith))
-    | inr g ↦ absurd (let p = rw g at q in cc p)
+    | inr g ↦ (let p = rw g at q in elim (cases_Bool (bytes_eq field (codes "3"))) [
+      | inl v ↦ (let o = rw v at p in let three : 3 ≡ format = cc o in (omega arith, omega arith))
+      | inr w ↦ absurd (let o = rw w at p in cc o)
+    ])
   ])
 ]
 
@@ -323,7 +341,7 @@ first_ok rows format e =
     header_ok r.0.fields format (placed_ok r.0.number (header_of r.0.fields) format r.2)
 
 -- an auction that is read is one
-pub auction_ok : (rows : List RowText) (format : ℕ) (limits : Limits) (n : ℕ) (goods : List (List ℕ)) (supply reserve : List ℤ) (bidders : List (List ℕ × Book)) (order : List ℕ) (place : ℕ)
+pub auction_ok : (rows : List RowText) (format : ℕ) (limits : Limits) (n : ℕ) (goods : List (List ℕ)) (supply reserve : List ℤ) (bidders : List (List ℕ × Book)) (caps : List (Option ℤ)) (order : List ℕ) (place : ℕ)
     → AreLimits limits
     → n ≡ length goods
     → read_at rows 0 header_of ≡ Ok format
@@ -331,24 +349,27 @@ pub auction_ok : (rows : List RowText) (format : ℕ) (limits : Limits) (n : ℕ
     → read_at rows 2 (numbers_of (codes "supply") n (pos 0) (pos 1000000)) ≡ Ok supply
     → read_at rows 3 (numbers_of (codes "reserve") n (pos 0) (pos 1000000)) ≡ Ok reserve
     → ReadsBids format limits n rows bidders place
+    → AreCaps bidders caps
+    → (format ≤ 2 → caps ≡ no_caps (length bidders))
     → IsTieOrder (length bidders) order
     → (format ≡ 1 → order ≡ places (length bidders))
-    → IsAuction (record { format = format; goods = goods; supply = supply; reserve = reserve; bidders = bidders; order = order })
-auction_ok rows format limits n goods supply reserve bidders order place are count a b c d e ordered first =
+    → IsAuction (record { format = format; goods = goods; supply = supply; reserve = reserve; bidders = bidders; caps = caps; order = order })
+auction_ok rows format limits n goods supply reserve bidders caps order place are count a b c d e capped uncapped ordered first =
     let r = then_ok (row_at rows 1) (goods_at limits) goods b in
     let few = bids_ok format limits n [] (drop 4 rows) (e.bids, drop place rows) e.read (none_yet limits n) in
-    let R : List (List ℕ × Book) → Type 0 = λ z. IsTieOrder (length z) order → (format ≡ 1 → order ≡ places (length z)) → IsAuction (record { format = format; goods = goods; supply = supply; reserve = reserve; bidders = z; order = order }) in
+    let R : List (List ℕ × Book) → Type 0 = λ z. AreCaps z caps → (format ≤ 2 → caps ≡ no_caps (length z)) → IsTieOrder (length z) order → (format ≡ 1 → order ≡ places (length z))
+    → IsAuction (record { format = format; goods = goods; supply = supply; reserve = reserve; bidders = z; caps = caps; order = order }) in
     let P : ℕ → Type 0 = λ m. R (bidders_of m e.bids) in
-    let at_length = made format limits goods supply reserve e.bids order (first_ok rows format a) are (goods_ok limits r.0 goods r.2) (subst (λ (m : ℕ). AreAmounts m supply) count (amounts_at rows 2 (codes "supply") n supply c))
+    let at_length = made format limits goods supply reserve e.bids caps order (first_ok rows format a) are (goods_ok limits r.0 goods r.2) (subst (λ (m : ℕ). AreAmounts m supply) count (amounts_at rows 2 (codes "supply") n supply c))
     (subst (λ (m : ℕ). AreAmounts m reserve) count (amounts_at rows 3 (codes "reserve") n reserve d)) (subst (λ (m : ℕ). AreFew limits m e.bids) count few) in
-    subst R (sym e.gathered) (subst P (sym count) at_length) ordered first
+    subst R (sym e.gathered) (subst P (sym count) at_length) capped uncapped ordered first
 
 -- ---- limits
 
 -- few bids: their bidders keep to the limits
-bids_meet : (format : ℕ) (goods : List (List ℕ)) (supply reserve : List ℤ) (n : ℕ) (bids : List NamedBid) (order : List ℕ) → AreGoods (limits_of format) goods → AreFew (limits_of format) n bids
-    → MeetsLimits (record { format = format; goods = goods; supply = supply; reserve = reserve; bidders = bidders_of n bids; order = order })
-bids_meet format goods supply reserve n bids order g few = record {
+bids_meet : (format : ℕ) (goods : List (List ℕ)) (supply reserve : List ℤ) (n : ℕ) (bids : List NamedBid) (caps : List (Option ℤ)) (order : List ℕ) → AreGoods (limits_of format) goods → AreFew (limits_of format) n bids
+    → MeetsLimits (record { format = format; goods = goods; supply = supply; reserve = reserve; bidders = bidders_of n bids; caps = caps; order = order })
+bids_meet format goods supply reserve n bids caps order g few = record {
   goods = g.few;
   bidders = let h = few.names in let l = bidders_length n bids in omega arith;
   lists = each_list n bids (BidsMeet (limits_of format)) (λ m a. few.under m);
@@ -368,8 +389,9 @@ meets_limits rows read e =
     let supply = then_ok (read_at rows 2 (numbers_of (codes "supply") n (pos 0) (pos 1000000))) _ read goods.2 in
     let reserve = then_ok (read_at rows 3 (numbers_of (codes "reserve") n (pos 0) (pos 1000000))) _ read supply.2 in
     let bids = then_ok (bids_from header.0 limits n [] (drop 4 rows)) _ read reserve.2 in
-    let served = then_ok (order_from header.0 (bidders_of n bids.0.0) bids.0.1) _ read bids.2 in
+    let capped = then_ok (caps_from header.0 (bidders_of n bids.0.0) (no_caps (length (bidders_of n bids.0.0))) bids.0.1) _ read bids.2 in
+    let served = then_ok (order_from header.0 (bidders_of n bids.0.0) capped.0.1) _ read capped.2 in
     let last = then_ok (end_from (length rows + 1) served.0.1) _ read served.2 in
     let row = then_ok (row_at rows 1) (goods_at limits) goods.0 goods.1 in
     let few = bids_ok header.0 limits n [] (drop 4 rows) bids.0 bids.1 (none_yet limits n) in
-    meet_when_read _ _ read last.2 (bids_meet header.0 goods.0 supply.0 reserve.0 n bids.0.0 _ (goods_ok limits row.0 goods.0 row.2) few)
+    meet_when_read _ _ read last.2 (bids_meet header.0 goods.0 supply.0 reserve.0 n bids.0.0 _ _ (goods_ok limits row.0 goods.0 row.2) few)

@@ -1,5 +1,5 @@
 -- Reading one row more of the bids: what it makes of the reading from there on.
-use Rattle.std.proofs.Common.{◌≡◌, ◌<◌, ◌≤◌, ◌+◌, ℕ, suc, List, [], ◌∷◌, ◌++◌, length, drop, get_or, refl, sym, ap, ◌∙◌, Some, None, true, false, Ok, Err, add-one, arith, nat_lt, inl, inr}
+use Rattle.std.proofs.Common.{◌≡◌, ◌<◌, ◌≤◌, ◌+◌, ℕ, suc, List, [], ◌∷◌, ◌++◌, ℤ, length, drop, get_or, refl, sym, ap, ◌∙◌, Option, Some, None, true, false, Ok, Err, add-one, arith, nat_lt, inl, inr}
 use Rattle.std.proofs.Math.Seq.{drop-cons}
 use Rattle.std.proofs.lemmas.Bool.{cases_Bool}
 use Rattle.std.proofs.lemmas.Bool.Decides.{nat_tests}
@@ -7,7 +7,7 @@ use Rattle.std.proofs.lemmas.List.{drop_all}
 use Rattle.mix_text.specs.Rows.{RowText}
 use Rattle.mix_num.specs.Orders.{places}
 use Rattle.mix_text.specs.Bidders.{Named}
-use Rattle.mix_text.specs.Reading.{◌>>=◌, NamedBid, bid_row_of, bids_from, end_from, end_of, ends_bids, is_order_row, limit_of, order_from, order_row_of, placed, read_at}
+use Rattle.mix_text.specs.Reading.{◌>>=◌, NamedBid, bid_row_of, bids_from, cap_row_of, caps_from, end_from, end_of, ends_bids, is_cap_row, is_order_row, limit_of, order_from, order_row_of, placed, read_at}
 use Rattle.mix_text.specs.declared.faults.Code.{Code}
 use Rattle.mix_text.specs.declared.faults.What.{What}
 use Rattle.mix_text.specs.declared.faults.TextError.TheVariants as error
@@ -44,6 +44,28 @@ unfolding bids_from
 none_more format limits n before rows k h = rw (drop_all k rows h) refl
 
 -- ---- the rows after the bids
+
+-- no more caps: another row, or none
+pub caps_end : (format : ℕ) (bidders : Named) (caps : List (Option ℤ)) (row : RowText) (rest : List RowText) → false ≡ is_cap_row format row.fields
+    → caps_from format bidders caps (row ∷ rest) ≡ Ok (caps, row ∷ rest)
+unfolding caps_from
+caps_end format bidders caps row rest h = rw (← h) refl
+
+pub no_more_caps : (format : ℕ) (bidders : Named) (caps : List (Option ℤ)) (rows : List RowText) (k : ℕ) → length rows ≤ k → caps_from format bidders caps (drop k rows) ≡ Ok (caps, [])
+unfolding caps_from
+no_more_caps format bidders caps rows k h = rw (drop_all k rows h) refl
+
+-- a cap that can't be read
+pub cap_wrong : (format : ℕ) (bidders : Named) (caps : List (Option ℤ)) (row : RowText) (rest : List RowText) (c : Code) → true ≡ is_cap_row format row.fields → cap_row_of bidders caps row.fields ≡ Err c
+    → caps_from format bidders caps (row ∷ rest) ≡ Err (error.Fault (record { at = row.number; code = c }))
+unfolding caps_from
+cap_wrong format bidders caps row rest c h e = rw (← h, e) refl
+
+-- one cap more
+pub cap_more : (format : ℕ) (bidders : Named) (caps more : List (Option ℤ)) (row : RowText) (rest : List RowText) → true ≡ is_cap_row format row.fields → cap_row_of bidders caps row.fields ≡ Ok more
+    → caps_from format bidders caps (row ∷ rest) ≡ caps_from format bidders more rest
+unfolding caps_from
+cap_more format bidders caps more row rest h e = rw (← h, e) refl
 
 -- the order that the row at a place states
 pub states : (format : ℕ) (bidders : Named) (rows : List RowText) (k : ℕ) (row : RowText) → k < length rows → row ≡ get_or rows k row → true ≡ is_order_row format row.fields

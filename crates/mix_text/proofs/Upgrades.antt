@@ -11,8 +11,8 @@ use Rattle.mix_text.specs.Reading.{is_negative}
 use Rattle.mix_text.specs.declared.formats.Limits.{Limits}
 use Rattle.mix_text.proofs.FewCells.{few_cells}
 
-pub is_of_two : (a : AuctionText) → IsAuction a → IsAuction (record a { format = 2 })
-is_of_two a s = record {
+pub is_of_two : (a : AuctionText) → IsAuction a → a.format ≡ 1 → IsAuction (record a { format = 2 })
+is_of_two a s one = record {
   format = (omega arith, omega arith);
   some_goods = s.some_goods;
   few_goods = s.few_goods;
@@ -22,8 +22,10 @@ is_of_two a s = record {
   names = s.names;
   few_bidders = s.few_bidders;
   books = s.books;
+  caps = s.caps;
   order = s.order;
   first_format = λ e. absurd (omega (arith, e));
+  uncapped = λ two. s.uncapped (omega (arith, one));
 }
 
 -- a list over few goods that meets the limits of format 1 meets those of format 2

@@ -2,11 +2,11 @@
 use Rattle.std.specs.Prelude.{◌≡◌, ◌≤◌, ◌==◌, Bool, false, ℕ, nat_le, nat_lt, if◌then◌else◌, Option, Some, None}
 use Rattle.mix_text.specs.declared.formats.Limits.{Limits}
 
--- the formats that there are, by their numbers: 1 and 2
+-- the formats that there are, by their numbers: 1 to 3
 abbrev pub IsFormat : ℕ → Type 0
-IsFormat format = (1 ≤ format) × (format ≤ 2)
+IsFormat format = (1 ≤ format) × (format ≤ 3)
 
--- the limits of `mix,1` and of `mix,2`
+-- the limits of `mix,1`, and those of `mix,2` and `mix,3`
 abbrev pub mix_one : Limits
 mix_one = record { goods = 5; bidders = 64; bids = 400; negatives = Some 12; cells = None }
 
@@ -20,6 +20,10 @@ limits_of format = if format == 1 then mix_one else mix_two
 -- whether a text of a format may state the tie order: from format 2 on
 abbrev pub has_order : ℕ → Bool
 has_order format = nat_le 2 format
+
+-- whether a text of a format may give bidders caps: from format 3 on
+abbrev pub has_caps : ℕ → Bool
+has_caps format = nat_le 3 format
 
 -- whether a count is greater than a limit, where there is one
 abbrev pub is_past : Option ℕ → ℕ → Bool

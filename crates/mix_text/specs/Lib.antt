@@ -9,3 +9,4 @@ pub mod AuctionTexts
 pub mod Reading
 pub mod Limits
 pub mod Orders
+pub mod Caps

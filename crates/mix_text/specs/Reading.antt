@@ -1,5 +1,5 @@
 -- The text of an auction, read row by row: the auction and the rows after it, or the first row with a fault or past a limit.
-use Rattle.std.specs.Prelude.{◌≡◌, ◌==◌, ◌≤◌, ◌+◌, ◌⊎◌, ◌&&◌, ◌||◌, Bool, true, false, ℕ, suc, ℤ, pos, neg_ℤ, List, [], ◌∷◌, ◌++◌, length, drop, map, filter, count_by, not, slice_index_or, nat_lt, nat_le, int_lt, if◌then◌else◌, Option, Some, None, Result, Ok, Err, codes}
+use Rattle.std.specs.Prelude.{◌≡◌, ◌==◌, ◌≤◌, ◌+◌, ◌⊎◌, ◌&&◌, ◌||◌, Bool, true, false, ℕ, suc, ℤ, pos, neg_ℤ, List, [], ◌∷◌, ◌++◌, length, drop, map, filter, count_by, not, slice_index_or, nat_lt, nat_le, int_lt, if◌then◌else◌, Option, Some, None, is_none, Result, Ok, Err, codes}
 use Rattle.std.specs.Ordering.{int_eq}
 use Rattle.std.specs.Str.{bytes_eq}
 use Rattle.mix_bids.specs.Bids.{Book}
@@ -8,8 +8,9 @@ use Rattle.mix_bids.specs.Offers.{offers_some}
 use Rattle.mix_bids.specs.declared.bid.Bid.{Bid}
 use Rattle.mix_text.specs.Rows.{RestText, RowText}
 use Rattle.mix_text.specs.Spelling.{spelled_name, spelled_number, between}
-use Rattle.mix_text.specs.Bidders.{Named, place_of, with_bid}
-use Rattle.mix_text.specs.Formats.{has_order, is_past, limits_of}
+use Rattle.mix_text.specs.Bidders.{Named, list_at, place_of, with_bid}
+use Rattle.mix_text.specs.Caps.{cap_at, no_caps, with_cap}
+use Rattle.mix_text.specs.Formats.{has_caps, has_order, is_past, limits_of}
 use Rattle.mix_text.specs.Names.{different, is_among}
 use Rattle.mix_num.specs.Orders.{places}
 use Rattle.mix_text.specs.Orders.{is_served}
@@ -55,7 +56,7 @@ number_in low high field = between low high (spelled_number field)
 
 -- the format that a field names
 abbrev pub format_of : List ℕ → Result ℕ Code
-format_of field = if bytes_eq field (codes "1") then Ok 1 else if bytes_eq field (codes "2") then Ok 2 else Err code.Header
+format_of field = if bytes_eq field (codes "1") then Ok 1 else if bytes_eq field (codes "2") then Ok 2 else if bytes_eq field (codes "3") then Ok 3 else Err code.Header
 
 -- the first row: `mix`, the format, and nothing else
 unfoldable pub header_of : List (List ℕ) → Result ℕ Code
@@ -105,12 +106,15 @@ bid_of n fields =
 unfoldable pub bid_row_of : ℕ → List (List ℕ) → Result NamedBid Code
 bid_row_of n fields = holds (begins fields (codes "bid")) code.Place >>= λ _. bid_of n fields
 
--- whether a row of a format is a stated order, and whether it ends the bids: it is one, or the last row of the auction
+-- whether a row of a format is a stated order, whether it is a cap, and whether it ends the bids: it is one of them, or the last row of the auction
 abbrev pub is_order_row : ℕ → List (List ℕ) → Bool
 is_order_row format fields = has_order format && begins fields (codes "order")
 
+abbrev pub is_cap_row : ℕ → List (List ℕ) → Bool
+is_cap_row format fields = has_caps format && begins fields (codes "cap")
+
 abbrev pub ends_bids : ℕ → List (List ℕ) → Bool
-ends_bids format fields = begins fields (codes "end") || is_order_row format fields
+ends_bids format fields = begins fields (codes "end") || (is_order_row format fields || is_cap_row format fields)
 
 -- the place that is found, where one is
 abbrev pub found : Option ℕ → Result ℕ Code
@@ -132,14 +136,28 @@ served_after bidders seen (field ∷ rest) =
 unfoldable pub order_row_of : Named → List (List ℕ) → Result (List ℕ) Code
 order_row_of bidders fields = holds (length fields == length bidders + 1) code.Fields >>= λ _. served_after bidders [] (drop 1 fields)
 
+-- whether a bid has negative weight, and whether none of these has
+abbrev pub is_negative : Bid → Bool
+is_negative bid = int_lt bid.weight (pos 0)
+
+abbrev pub none_negative : List Bid → Bool
+none_negative bids = count_by is_negative bids == 0
+
+-- a cap, whose word is known: a bidder that has none yet, and a number of units; the bidder must not have a bid of negative weight
+unfoldable pub cap_row_of : Named → List (Option ℤ) → List (List ℕ) → Result (List (Option ℤ)) Code
+cap_row_of bidders caps fields =
+    holds (length fields == 3) code.Fields >>= λ _.
+    bidder_of bidders (field_at fields 1) >>= λ k.
+    holds (is_none (cap_at caps k)) code.Repeated >>= λ _.
+    number_in (pos 0) (pos 1000000) (field_at fields 2) >>= λ cap.
+    holds (none_negative (list_at bidders k).bids) code.Weight >>= λ _.
+    Ok (with_cap caps k cap)
+
 -- the last row of an auction: `end` alone
 unfoldable pub end_of : List (List ℕ) → Result (Unit {0}) Code
 end_of fields = holds (begins fields (codes "end")) code.Place >>= λ _. holds (length fields == 1) code.Fields
 
 -- ---- limits
-
-abbrev pub is_negative : Bid → Bool
-is_negative bid = int_lt bid.weight (pos 0)
 
 -- the names of these bids, and the bids of one name, in their order
 abbrev pub names_of : List NamedBid → List (List ℕ)
@@ -205,6 +223,14 @@ bids_from format limits n before (row ∷ rest) =
     unless_past row.number (limit_of limits n before b) >>= λ _.
     bids_from format limits n (before ++ (b ∷ [])) rest)
 
+-- the caps that the first of these rows tell, after those told before, and the rows after them
+unfoldable pub caps_from : ℕ → Named → List (Option ℤ) → List RowText → Result (List (Option ℤ) × List RowText) TextError
+caps_from format bidders caps [] = Ok (caps, [])
+caps_from format bidders caps (row ∷ rest) =
+    if is_cap_row format row.fields
+    then (placed row.number (cap_row_of bidders caps row.fields) >>= λ more. caps_from format bidders more rest)
+    else Ok (caps, row ∷ rest)
+
 -- the tie order that the first of these rows states, or else that of first appearance, and the rows after it
 unfoldable pub order_from : ℕ → Named → List RowText → Result (List ℕ × List RowText) TextError
 order_from format bidders [] = Ok (places (length bidders), [])
@@ -238,10 +264,11 @@ reading_of rows =
     read_at rows 2 (numbers_of (codes "supply") (length goods) (pos 0) (pos 1000000)) >>= λ supply.
     read_at rows 3 (numbers_of (codes "reserve") (length goods) (pos 0) (pos 1000000)) >>= λ reserve.
     bids_from format (limits_of format) (length goods) [] (drop 4 rows) >>= λ read.
-    order_from format (bidders_of (length goods) read.0) read.1 >>= λ served.
+    caps_from format (bidders_of (length goods) read.0) (no_caps (length (bidders_of (length goods) read.0))) read.1 >>= λ capped.
+    order_from format (bidders_of (length goods) read.0) capped.1 >>= λ served.
     end_from (length rows + 1) served.1 >>= λ rest.
     Ok (
-      record { format = format; goods = goods; supply = supply; reserve = reserve; bidders = bidders_of (length goods) read.0; order = served.0 },
+      record { format = format; goods = goods; supply = supply; reserve = reserve; bidders = bidders_of (length goods) read.0; caps = capped.0; order = served.0 },
       record { rows = rest; next = length rows + 1 },
     )
 
@@ -272,6 +299,11 @@ pub record ReadsBids (format : ℕ) (limits : Limits) (n : ℕ) (rows : List Row
   pub read : bids_from format limits n [] (drop 4 rows) ≡ Ok (bids, drop place rows)
   pub gathered : bidders ≡ bidders_of n bids
   pub within : place ≤ length rows
+
+-- these caps are those from the row at a place on, and the rows go on at another place
+pub record ReadsCaps (format : ℕ) (bidders : List (List ℕ × Book)) (rows : List RowText) (place : ℕ) (caps : List (Option ℤ)) (next : ℕ) : Type 0 where
+  pub read : caps_from format bidders (no_caps (length bidders)) (drop place rows) ≡ Ok (caps, drop next rows)
+  pub within : next ≤ length rows
 
 -- this order is the one from the row at a place on, and the rows go on at another place
 pub record ReadsOrder (format : ℕ) (bidders : List (List ℕ × Book)) (rows : List RowText) (place : ℕ) (order : List ℕ) (next : ℕ) : Type 0 where

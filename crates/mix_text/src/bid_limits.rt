@@ -11,8 +11,8 @@ use crate::formats::Limits;
 use mix_bids::{Bid, BidList};
 use mix_num::Memory;
 
-// How many of these bids are negative.
-fn negatives(bids: &[Bid]) -> usize
+/// How many of these bids are negative.
+pub(crate) fn negatives(bids: &[Bid]) -> usize
     ensures { result ≡ count_by is_negative bids.now }
 {
     bids.iter().filter(|bid| bid.weight < 0).count()

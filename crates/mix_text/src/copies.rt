@@ -29,6 +29,7 @@ impl Auction {
             supply: copied(&self.supply),
             reserve: copied(&self.reserve),
             bidders: self.bidders.copy(alloc)?,
+            caps: self.caps.copy(alloc)?,
             order: self.order.copy(alloc)?,
         })
     }
@@ -51,6 +52,7 @@ pub fn upgrade(alloc: Global, auction: &Auction) -> Result<Auction, Memory>
         supply: copy.supply,
         reserve: copy.reserve,
         bidders: copy.bidders,
+        caps: copy.caps,
         order: copy.order,
     })
 }

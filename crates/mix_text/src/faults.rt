@@ -18,7 +18,7 @@ pub enum Code {
     Number,
     /// A number is outside its range.
     Range,
-    /// A weight is 0.
+    /// A weight is 0, or a bidder that is given a cap has a bid of negative weight.
     Weight,
     /// A bid offers no good.
     Nothing,

@@ -1,6 +1,6 @@
 // The formats of an auction's text, and how much of each quantity they let stand.
 ghost use Rattle.std.specs.Prelude.{◌≡◌};
-ghost use Rattle.mix_text.specs.Formats.{AreLimits, has_order as has_order_of, limits_of as limits_of_format};
+ghost use Rattle.mix_text.specs.Formats.{AreLimits, has_caps as has_caps_of, has_order as has_order_of, limits_of as limits_of_format};
 
 /// How much of each quantity a format lets stand; None where it sets no limit.
 #[derive(Clone, Copy)]
@@ -26,7 +26,7 @@ const MIX_ONE: Limits = Limits {
     cells: None,
 };
 
-// The limits of `mix,2`.
+// The limits of `mix,2` and of `mix,3`.
 const MIX_TWO: Limits = Limits {
     goods: 8,
     bidders: 256,
@@ -35,7 +35,7 @@ const MIX_TWO: Limits = Limits {
     cells: Some(4_194_304),
 };
 
-/// The limits of a format, 1 or 2.
+/// The limits of a format, from 1 to 3. Format 3 has those of format 2.
 #[tactic(auto, unfolding(crate::specs::Formats::limits_of), using(crate::proofs::FormatLimits::limits_are))]
 pub fn limits_of(format: u8) -> Limits
     ensures value { result ≡ limits_of_format format }
@@ -49,4 +49,11 @@ pub fn has_order(format: u8) -> bool
     ensures { result ≡ has_order_of format }
 {
     format >= 2
+}
+
+/// Whether a text of a format may give bidders caps: from format 3 on.
+pub fn has_caps(format: u8) -> bool
+    ensures { result ≡ has_caps_of format }
+{
+    format >= 3
 }

@@ -4,6 +4,8 @@
 mod auction;
 mod bid_limits;
 mod bidders;
+mod cap_reading;
+mod caps;
 mod copies;
 mod faults;
 mod formats;
@@ -21,9 +23,10 @@ mod spelling;
 
 pub use auction::Auction;
 pub use bidders::Bidders;
+pub use caps::Caps;
 pub use copies::upgrade;
 pub use faults::{Code, Fault, Limit, TextError, What};
-pub use formats::has_order;
+pub use formats::{has_caps, has_order};
 pub use names::Names;
 pub use order::Order;
 pub use page::Page;

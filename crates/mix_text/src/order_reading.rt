@@ -2,7 +2,7 @@
 ghost use Rattle.std.specs.Prelude.{◌≡◌, ◌<◌, ◌≤◌, ◌∷◌, [], List, ℕ, false, length, slice_index_or, drop, Ok, IfOk, IfErr, OnOk};
 ghost use Rattle.mix_num.specs.Orders.{places as places_of};
 ghost use Rattle.mix_text.specs.Orders.{AreMarks};
-ghost use Rattle.mix_text.specs.Reading.{IsFromText, ReadsOrder, bidder_of, ends_bids, field_at, is_order_row, order_from, order_row_of, placed, served_after};
+ghost use Rattle.mix_text.specs.Reading.{IsFromText, ReadsOrder, bidder_of, field_at, is_order_row, order_from, order_row_of, placed, served_after};
 
 use crate::bidders::Bidders;
 use crate::faults::{Code, TextError};
@@ -14,22 +14,15 @@ use crate::spelling::read_name;
 use mix_num::Memory;
 use std::alloc::Global;
 
-// Whether a row states the tie order.
-fn states_order(format: u8, row: &Row) -> bool
+/// Whether a row states the tie order.
+pub(crate) fn states_order(format: u8, row: &Row) -> bool
     ensures { result ≡ is_order_row format row.now.fields }
 {
     has_order(format) && row_begins(row, b"order")
 }
 
-/// Whether a row ends the bids.
-pub(crate) fn ends_the_bids(format: u8, row: &Row) -> bool
-    ensures { result ≡ ends_bids format row.now.fields }
-{
-    row_begins(row, b"end") || states_order(format, row)
-}
-
-// The place of the bidder whom a field names.
-fn read_bidder(bidders: &Bidders, field: &[u8]) -> Result<usize, Code>
+/// The place of the bidder whom a field names.
+pub(crate) fn read_bidder(bidders: &Bidders, field: &[u8]) -> Result<usize, Code>
     ensures place { result ≡ bidder_of bidders.now field.now }
     ensures within { IfOk result (λ k. k < length bidders.now) }
 {
@@ -148,14 +141,14 @@ pub(crate) fn read_order(
 }
 
 #[cfg(test)]
-mod tests {
+pub(crate) mod tests {
     use crate::faults::{Code, Fault, TextError};
     use crate::reading::read_auction;
     use std::alloc::Global;
     use std::test::Fail;
 
-    // The fault of a text, if it has one.
-    fn fault_of(alloc: Global, text: &[u8]) -> Option<Fault> {
+    /// The fault of a text, if it has one.
+    pub(crate) fn fault_of(alloc: Global, text: &[u8]) -> Option<Fault> {
         if text.len() > 1000 {
             return None;
         }

@@ -6,15 +6,16 @@ ghost use Rattle.mix_text.specs.AuctionTexts.{auction_text};
 ghost use Rattle.mix_text.specs.Formats.{AreLimits};
 ghost use Rattle.mix_text.specs.Limits.{MeetsLimits};
 ghost use Rattle.mix_text.specs.Rows.{RestText, RowText, rows_of};
-ghost use Rattle.mix_text.specs.Reading.{IsFromText, ReadsBids, header_of, read_at, bidders_of, bids_from, end_of, field_at, goods_at, goods_form_of, limit_of, list_limit_of, NamedBid, names_after, numbers_of, placed, reading_of, row_at, unless_past};
+ghost use Rattle.mix_text.specs.Reading.{IsFromText, ReadsBids, header_of, read_at, bidders_of, bids_from, end_of, ends_bids, field_at, goods_at, goods_form_of, limit_of, list_limit_of, NamedBid, names_after, numbers_of, placed, reading_of, row_at, unless_past};
 
 use crate::auction::Auction;
 use crate::bid_limits::push_within;
 use crate::bidders::Bidders;
+use crate::cap_reading::{gives_cap, read_caps};
 use crate::faults::{Code, Limit, TextError, What};
 use crate::formats::{Limits, limits_of};
 use crate::names::Names;
-use crate::order_reading::{ends_the_bids, read_order};
+use crate::order_reading::{read_order, states_order};
 use crate::rest::Rest;
 use crate::row::Row;
 use crate::row_list::rows;
@@ -150,6 +151,13 @@ fn add_bid(
     }
 }
 
+// Whether a row ends the bids.
+fn ends_the_bids(format: u8, row: &Row) -> bool
+    ensures { result ≡ ends_bids format row.now.fields }
+{
+    row_begins(row, b"end") || states_order(format, row) || gives_cap(format, row)
+}
+
 /// The bids of an auction by name, and the place of the row that ends them.
 #[derive(Drop)]
 struct Gathered {
@@ -248,7 +256,8 @@ fn read_rows(alloc: Global, rows: &[Row]) -> Result<ReadRows, TextError>
     let supply = read_amounts(rows, 2, b"supply", count)?;
     let reserve = read_amounts(rows, 3, b"reserve", count)?;
     let gathered = read_bids(alloc, format, &limits, rows, count)?;
-    let served = read_order(alloc, format, &gathered.bidders, rows, gathered.end)?;
+    let capped = read_caps(alloc, format, &gathered.bidders, rows, gathered.end)?;
+    let served = read_order(alloc, format, &gathered.bidders, rows, capped.after)?;
     read_last(rows, served.after)?;
     Ok(ReadRows {
         auction: Auction {
@@ -257,6 +266,7 @@ fn read_rows(alloc: Global, rows: &[Row]) -> Result<ReadRows, TextError>
             supply,
             reserve,
             bidders: gathered.bidders,
+            caps: capped.caps,
             order: served.order,
         },
         after: served.after + 1,
@@ -267,10 +277,11 @@ fn read_rows(alloc: Global, rows: &[Row]) -> Result<ReadRows, TextError>
 ///
 /// The rows are looked at in order, and the first that has a fault or passes a limit decides, a fault before a limit
 /// within a row. Where the rows end before `end`, that is the fault `End` of the row that would come next.
-/// The auction that is read keeps to the limits of its format. Of each bidder both let 400 bids stand. Format 1 has at
-/// most 5 goods, 64 bidders, and of each bidder 12 bids of negative weight; format 2 has at most 8 goods, 256 bidders,
-/// and of each bidder's list 4,194,304 cells. The tie order is that of the row `order`, which format 2 may have before
-/// `end`, or else that of first appearance. `Memory` may come in place of any answer.
+/// The auction that is read keeps to the limits of its format. Every format lets 400 bids of each bidder stand. Format 1
+/// has at most 5 goods, 64 bidders, and of each bidder 12 bids of negative weight; formats 2 and 3 have at most 8 goods,
+/// 256 bidders, and of each bidder's list 4,194,304 cells. A bidder has the cap of its row `cap`, which format 3 may have
+/// after the bids, or else none. The tie order is that of the row `order`, which formats 2 and 3 may have before `end`, or
+/// else that of first appearance. `Memory` may come in place of any answer.
 pub fn read_auction(alloc: Global, text: &[u8]) -> Result<(Auction, Rest), TextError>
     requires { length text.now ≤ 16777216 }
     ensures read { IfOk result (λ p. reading_of (rows_of text.now) ≡ Ok (auction_text p.0, p.1)) }

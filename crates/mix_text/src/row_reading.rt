@@ -45,6 +45,8 @@ fn read_format(field: &[u8]) -> Result<u8, Code>
         Ok(1)
     } else if field == b"2".as_slice() {
         Ok(2)
+    } else if field == b"3".as_slice() {
+        Ok(3)
     } else {
         Err(Code::Header)
     }
@@ -68,8 +70,8 @@ pub(crate) fn read_end(row: &Row) -> Result<(), Code>
     unless(row.len() == 1, Code::Fields)
 }
 
-// The number from `low` to `high` that the field at a place spells.
-fn number_at(row: &Row, k: usize, low: i64, high: i64) -> Result<i64, Code>
+/// The number from `low` to `high` that the field at a place spells.
+pub(crate) fn number_at(row: &Row, k: usize, low: i64, high: i64) -> Result<i64, Code>
     requires place { k < length row.now.fields }
     requires ordered { low ≤ℤ high }
     requires not_low { neg_ℤ (pos 10000000000000) ≤ℤ low }
