@@ -2,6 +2,7 @@ pub mod AuctionNames
 pub mod PrintedPages
 pub mod PrintedAnswers
 pub mod TrueRefusals
+pub mod Entrants
 mod FirstRows
 pub mod SpelledFields
 pub mod SpelledRows

@@ -14,7 +14,7 @@ use Rattle.mix_answer.specs.declared.refusal.Refusal.{Refusal}
 use Rattle.mix_answer.specs.Refusals.{IsTrueRefusal}
 
 -- the list of the bidder at a place is over the goods of the auction
-list_at_ok : (a : AuctionText) (k : ℕ) → IsAuction a → k < length a.bidders → IsBook (length a.goods) (list_at a.bidders k)
+pub list_at_ok : (a : AuctionText) (k : ℕ) → IsAuction a → k < length a.bidders → IsBook (length a.goods) (list_at a.bidders k)
 list_at_ok a k sound h = All-get_or (λ (bidder : List ℕ × Book). IsBook (length a.goods) bidder.1) a.bidders k nobody h sound.books
   where
     nobody : List ℕ × Book
@@ -32,7 +32,7 @@ weight_least n p (b ∷ bs) are =
     one false weight others k l h = omega (arith, ints)
 
 -- its choices are choices of the auction's goods, and its weight is at least -10,000 for each bid
-pub fits : (a : AuctionText) (r : Refusal) → IsAuction a → IsTrueRefusal a.bidders r → FitsAuction a r
+pub fits : (a : AuctionText) (r : Refusal) → IsAuction a → IsTrueRefusal a r → FitsAuction a r
 fits a r sound refused =
     let book = list_at_ok a r.bidder sound refused.bidder in
     let list = list_at a.bidders r.bidder in

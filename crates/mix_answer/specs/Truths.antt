@@ -24,23 +24,23 @@ pair_of n answer k j = get_or answer.tights (k * n + j) (record { upper = 0; low
 abbrev pub HaveTights : AuctionText → Answer → Type 0
 HaveTights a answer = (k j : ℕ) → k < length a.bidders → j < length a.goods
     → let pair = pair_of (length a.goods) answer (place_at a.order k) j in
-    IsTightPair (utilities_of a.bidders) a.supply a.reserve answer.prices.items a.order (bundles_of answer) k j pair.upper pair.lower
+    IsTightPair (utilities_of a) a.supply a.reserve answer.prices.items a.order (bundles_of answer) k j pair.upper pair.lower
 
 -- and is the first tight pair
 abbrev pub HaveFirstTights : AuctionText → Answer → Type 0
 HaveFirstTights a answer = (k j : ℕ) → k < length a.bidders → j < length a.goods
     → let pair = pair_of (length a.goods) answer (place_at a.order k) j in
-    IsFirstTightPair (utilities_of a.bidders) a.supply a.reserve answer.prices.items a.order (bundles_of answer) k j pair.upper pair.lower
+    IsFirstTightPair (utilities_of a) a.supply a.reserve answer.prices.items a.order (bundles_of answer) k j pair.upper pair.lower
 
--- a true answer: each bidder's list is convex; the prices are the least clearing prices, and the bundles and returns clear there and keep
+-- a true answer: each bidder is convex; the prices are the least clearing prices, and the bundles and returns clear there and keep
 -- the tie rule; each payment is what the bundle costs; and the pairs are tight
 pub record IsTrueAnswer (a : AuctionText) (answer : Answer) : Type 0 where
-  pub convex : AreConvex a.bidders
-  pub solution : IsSolution (utilities_of a.bidders) a.supply a.reserve a.order answer.prices.items (bundles_of answer) answer.returns.items
+  pub convex : AreConvex a
+  pub solution : IsSolution (utilities_of a) a.supply a.reserve a.order answer.prices.items (bundles_of answer) answer.returns.items
   pub payments : All (λ share. share.payment ≡ dot_of answer.prices.items share.bundle.items) answer.shares
   pub tights : HaveTights a answer
 
 -- a true outcome: a true refusal, or a true answer
 abbrev pub IsTrueOutcome : AuctionText → Outcome → Type 0
-IsTrueOutcome a (Refused r) = IsTrueRefusal a.bidders r
+IsTrueOutcome a (Refused r) = IsTrueRefusal a r
 IsTrueOutcome a (Cleared answer) = IsTrueAnswer a answer

@@ -1,4 +1,4 @@
-mod CapsAtScales
+pub mod CapsAtScales
 mod Chosen
 mod Counts
 mod LotSums
