@@ -3,6 +3,7 @@ pub mod PrintedAuctions
 mod ReadFields
 mod ReadBids
 mod ReadOrders
+mod ReadCaps
 mod GatheredBids
 pub mod ReadAuctions
 mod GeneratorWords

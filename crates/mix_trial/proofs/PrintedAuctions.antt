@@ -17,16 +17,17 @@ use Rattle.mix_bids.specs.declared.bid.Bid.{Bid}
 use Rattle.mix_text.specs.Auctions.{AuctionText, IsAuction, IsBook}
 use Rattle.mix_num.specs.Orders.{place_at}
 use Rattle.mix_text.specs.Bidders.{Named, name_at, names_at}
+use Rattle.mix_text.specs.Caps.{cap_at}
 use Rattle.mix_text.specs.Formats.{has_order}
 use Rattle.mix_text.specs.Pages.{PageText, is_printable, is_printable_row, line_of, printed}
 use Rattle.mix_text.specs.Spelling.{is_name}
 use Rattle.mix_text.proofs.PrintedNumbers.{signed_printable}
 use Rattle.mix_text.proofs.Spellings.{name_printable}
-use Rattle.mix_trial.specs.Printing.{amounts_row, auction_rows, bid_row, bidder_rows, end_row, goods_row, head_row, order_rows, value_text}
+use Rattle.mix_trial.specs.Printing.{amounts_row, auction_rows, bid_row, bidder_rows, cap_rows, end_row, goods_row, head_row, order_rows, value_text}
 use Rattle.mix_trial.proofs.PrintedBids.{printed-append}
 
-whole_text : (a b c d f g h : List ℕ) → (((((a ++ b) ++ c) ++ d) ++ f) ++ g) ++ h ≡ a ++ (b ++ (c ++ (d ++ (f ++ (g ++ h)))))
-whole_text a b c d f g h = simp append_assoc
+whole_text : (a b c d f g h i : List ℕ) → ((((((a ++ b) ++ c) ++ d) ++ f) ++ g) ++ h) ++ i ≡ a ++ (b ++ (c ++ (d ++ (f ++ (g ++ (h ++ i))))))
+whole_text a b c d f g h i = simp append_assoc
 
 last_text : (rows : List (List (List ℕ))) (row : List (List ℕ)) → printed rows ++ line_of row ≡ printed (rows ++ (row ∷ []))
 last_text rows row = ap (λ (t : List ℕ). printed rows ++ t) (alone (line_of row)) ∙ sym (printed-append rows (row ∷ []))
@@ -36,7 +37,7 @@ last_text rows row = ap (λ (t : List ℕ). printed rows ++ t) (alone (line_of r
     alone (x ∷ xs) = ap (λ (r : List ℕ). x ∷ r) (alone xs)
 
 -- the pages after each kind of row
-pub auction_pages : (a : AuctionText) (sold least : List ℤ) (start head goods supply reserve bids order all : PageText)
+pub auction_pages : (a : AuctionText) (sold least : List ℤ) (start head goods supply reserve bids caps order all : PageText)
     → sold ≡ a.supply → least ≡ a.reserve
     → start ≡ record { ended = []; fields = [] }
     → head ≡ record { ended = start.ended ++ line_of (head_row a.format); fields = [] }
@@ -44,18 +45,23 @@ pub auction_pages : (a : AuctionText) (sold least : List ℤ) (start head goods 
     → supply ≡ record { ended = goods.ended ++ line_of (amounts_row (codes "supply") sold); fields = [] }
     → reserve ≡ record { ended = supply.ended ++ line_of (amounts_row (codes "reserve") least); fields = [] }
     → bids ≡ record { ended = reserve.ended ++ printed (bidder_rows a.bidders); fields = [] }
-    → order ≡ record { ended = bids.ended ++ printed (order_rows a); fields = [] }
+    → caps ≡ record { ended = bids.ended ++ printed (cap_rows a.bidders a.caps); fields = [] }
+    → order ≡ record { ended = caps.ended ++ printed (order_rows a); fields = [] }
     → all ≡ record { ended = order.ended ++ line_of end_row; fields = [] }
     → all.ended ≡ printed (auction_rows a)
-auction_pages a sold least start head goods supply reserve bids order all same at_least s h g p r b o e =
+auction_pages a sold least start head goods supply reserve bids caps order all same at_least s h g p r b c o e =
     let before : List ℕ = line_of (head_row a.format) in
     let one : List ℕ = line_of (goods_row a.goods) in
     let two : List ℕ = line_of (amounts_row (codes "supply") a.supply) in
     let three : List ℕ = line_of (amounts_row (codes "reserve") a.reserve) in
-    rw (e, o, b, r, p, g, h, s, same, at_least) (
-    whole_text before one two three (printed (bidder_rows a.bidders)) (printed (order_rows a)) (line_of end_row)
-    ∙ ap (λ (t : List ℕ). before ++ (one ++ (two ++ (three ++ (printed (bidder_rows a.bidders) ++ t))))) (last_text (order_rows a) end_row)
-    ∙ ap (λ (t : List ℕ). before ++ (one ++ (two ++ (three ++ t)))) (sym (printed-append (bidder_rows a.bidders) (order_rows a ++ end_row ∷ [])))
+    let offers : List (List (List ℕ)) = bidder_rows a.bidders in
+    let capped : List (List (List ℕ)) = cap_rows a.bidders a.caps in
+    let last : List (List (List ℕ)) = order_rows a ++ end_row ∷ [] in
+    rw (e, o, c, b, r, p, g, h, s, same, at_least) (
+    whole_text before one two three (printed offers) (printed capped) (printed (order_rows a)) (line_of end_row)
+    ∙ ap (λ (t : List ℕ). before ++ (one ++ (two ++ (three ++ (printed offers ++ (printed capped ++ t)))))) (last_text (order_rows a) end_row)
+    ∙ ap (λ (t : List ℕ). before ++ (one ++ (two ++ (three ++ (printed offers ++ t))))) (sym (printed-append capped last))
+    ∙ ap (λ (t : List ℕ). before ++ (one ++ (two ++ (three ++ t)))) (sym (printed-append offers (capped ++ last)))
     )
 
 -- ---- each row may be printed
@@ -148,6 +154,19 @@ order_printable a is = elim (cases_Bool (has_order a.format)) [
   | inr f ↦ rw f refl
 ]
 
+-- the rows of caps from a place on
+caps_printable : (bidders : Named) (caps : List (Option ℤ)) → All (λ bidder. is_name bidder.0 ≡ true) bidders → ((k : ℕ) (cap : ℤ) → cap_at caps k ≡ Some cap → IsAmount cap) → list_all is_printable_row (cap_rows bidders caps) ≡ true
+caps_printable [] caps names range = refl
+caps_printable (b ∷ bs) [] names range = refl
+caps_printable (b ∷ bs) (None ∷ caps) names range = caps_printable bs caps (All-tail (λ (bidder : List ℕ × Book). is_name bidder.0 ≡ true) b bs names) (λ k. range (suc k))
+caps_printable (b ∷ bs) (Some cap ∷ caps) names range =
+    let N : List ℕ × Book → Type 0 = λ bidder. is_name bidder.0 ≡ true in
+    let name = name_printable b.0 (All-head N b bs names) in
+    let number = signed_printable cap (amount_fits cap (range 0 cap refl)) in
+    let first = word_row (codes "cap") (b.0 ∷ signed_decimal cap ∷ []) refl (rw (name, number) refl) in
+    let rest = caps_printable bs caps (All-tail N b bs names) (λ k. range (suc k)) in
+    ap (λ t. t && list_all is_printable_row (cap_rows bs caps)) first ∙ rest
+
 pub auction_printable : (a : AuctionText) → IsAuction a → list_all is_printable_row (auction_rows a) ≡ true
 auction_printable a is =
     let format = is.format in
@@ -157,5 +176,7 @@ auction_printable a is =
     let reserve = word_row (codes "reserve") (map signed_decimal a.reserve) refl (amounts_printable a.reserve is.reserve.1) in
     let bids = bidders_printable (length a.goods) a.bidders (each_name a.bidders is.names.form) is.books in
     let order = list_all-append is_printable_row (order_rows a) (end_row ∷ []) ∙ ap (λ t. t && true) (order_printable a is) in
-    let last = list_all-append is_printable_row (bidder_rows a.bidders) (order_rows a ++ end_row ∷ []) ∙ ap₂ (λ t u. t && u) bids order in
+    let caps = caps_printable a.bidders a.caps (each_name a.bidders is.names.form) is.caps.range in
+    let capped = list_all-append is_printable_row (cap_rows a.bidders a.caps) (order_rows a ++ end_row ∷ []) ∙ ap₂ (λ t u. t && u) caps order in
+    let last = list_all-append is_printable_row (bidder_rows a.bidders) (cap_rows a.bidders a.caps ++ (order_rows a ++ end_row ∷ [])) ∙ ap₂ (λ t u. t && u) bids capped in
     rw (head, goods, supply, reserve, last) refl

@@ -1,11 +1,13 @@
--- The rows of bids and of bidders, printed one by one.
-use Rattle.std.proofs.Common.{◌≡◌, ◌∙◌, sym, ap, refl, ◌<◌, ◌≤◌, ◌+◌, ℕ, List, [], ◌∷◌, ◌++◌, append-nil, append_assoc, length, drop, get_or, map}
+-- The rows of bids, of bidders and of caps, printed one by one.
+use Rattle.std.proofs.Common.{◌≡◌, ◌∙◌, sym, ap, refl, ◌<◌, ◌≤◌, ◌+◌, ℕ, List, [], ◌∷◌, ◌++◌, append-nil, append_assoc, length, drop, get_or, map, ℤ, Option, None, arith}
 use Rattle.std.proofs.lemmas.List.{drop_all, drop_more}
 use Rattle.mix_bids.specs.Bids.{Book}
 use Rattle.mix_bids.specs.declared.bid.Bid.{Bid}
 use Rattle.mix_text.specs.Bidders.{Named, list_at, name_at}
+use Rattle.mix_text.specs.Caps.{cap_at}
 use Rattle.mix_text.specs.Pages.{PageText, line_of, printed}
-use Rattle.mix_trial.specs.Printing.{bid_row, bidder_rows}
+use Rattle.mix_text.specs.declared.auction.Auction.{Auction}
+use Rattle.mix_trial.specs.Printing.{bid_row, bidder_rows, cap_rows, own_cap_rows}
 
 pub printed-append : (rows others : List (List (List ℕ))) → printed (rows ++ others) ≡ printed rows ++ printed others
 printed-append [] others = refl
@@ -47,3 +49,21 @@ bidders_more ended all bidders k h i =
 pub bidders_end : (page : PageText) (all : List ℕ) (bidders : Named) (k : ℕ) → length bidders ≤ k → page.fields ≡ []
     → page.ended ++ printed (bidder_rows (drop k bidders)) ≡ all → page ≡ record { ended = all; fields = [] }
 bidders_end page all bidders k b o i = no_more page all (bidder_rows (drop k bidders)) o (rw (drop_all k bidders b) refl) i
+
+-- ---- caps
+
+-- there is a cap, or none, for each bidder
+pub caps_counted : (auction : Auction) → length auction.caps ≡ length auction.bidders
+caps_counted auction = auction.sound.caps.size
+
+-- the row of a bidder's cap more, where it has one
+pub caps_more : (ended all : List ℕ) (bidders : Named) (caps : List (Option ℤ)) (k : ℕ) → k < length bidders → length caps ≡ length bidders → ended ++ printed (cap_rows (drop k bidders) (drop k caps)) ≡ all
+    → (ended ++ printed (own_cap_rows (name_at bidders k) (cap_at caps k))) ++ printed (cap_rows (drop (k + 1) bidders) (drop (k + 1) caps)) ≡ all
+caps_more ended all bidders caps k h size i =
+    let nobody : List ℕ × Book = ([], record { goods = 0; bids = [] }) in
+    let within : k < length caps = omega (arith, h, size) in
+    more ended all (own_cap_rows (name_at bidders k) (cap_at caps k)) (cap_rows (drop (k + 1) bidders) (drop (k + 1) caps)) (cap_rows (drop k bidders) (drop k caps)) (rw (drop_more bidders k nobody h, drop_more caps k None within) refl) i
+
+pub caps_end : (page : PageText) (all : List ℕ) (bidders : Named) (caps : List (Option ℤ)) (k : ℕ) → length bidders ≤ k → page.fields ≡ []
+    → page.ended ++ printed (cap_rows (drop k bidders) (drop k caps)) ≡ all → page ≡ record { ended = all; fields = [] }
+caps_end page all bidders caps k b o i = no_more page all (cap_rows (drop k bidders) (drop k caps)) o (rw (drop_all k bidders b) refl) i

@@ -5,11 +5,12 @@ use Rattle.std.proofs.lemmas.Bool.Decides.{nat_tests}
 use Rattle.std.proofs.lemmas.List.{length-map}
 use Rattle.mix_bids.specs.Bids.{Book}
 use Rattle.mix_text.specs.Auctions.{AuctionText, IsAuction}
+use Rattle.mix_text.specs.Caps.{no_caps}
 use Rattle.mix_text.specs.Formats.{limits_of}
 use Rattle.mix_text.specs.Limits.{MeetsLimits}
 use Rattle.mix_text.specs.Names.{AreNames}
 use Rattle.mix_text.specs.Pages.{printed}
-use Rattle.mix_text.specs.Reading.{◌>>=◌, bids_from, goods_at, header_of, numbers_of, order_from, read_at, reading_of, row_at}
+use Rattle.mix_text.specs.Reading.{◌>>=◌, bids_from, caps_from, goods_at, header_of, numbers_of, order_from, read_at, reading_of, row_at}
 use Rattle.mix_text.specs.Rows.{RestText, RowText, numbered, rows_of}
 use Rattle.mix_text.specs.declared.faults.Code.{Code}
 use Rattle.mix_text.specs.declared.faults.TextError.{TextError}
@@ -17,10 +18,11 @@ use Rattle.mix_text.specs.declared.formats.Limits.{Limits}
 use Rattle.mix_text.proofs.Gathering.{Unlike, different_unlike}
 use Rattle.mix_text.proofs.ReadBack.{rows_of-printed}
 use Rattle.mix_text.proofs.Records.{length-numbered}
-use Rattle.mix_trial.specs.Printing.{amounts_row, auction_rows, bidder_rows, end_row, goods_row, head_row, order_rows}
+use Rattle.mix_trial.specs.Printing.{amounts_row, auction_rows, bidder_rows, cap_rows, end_row, goods_row, head_row, order_rows}
 use Rattle.mix_trial.proofs.GatheredBids.{all_named, bids_of, gathered, names, names_same, rows_same, under_meets}
 use Rattle.mix_trial.proofs.PrintedAuctions.{auction_printable, each_name}
 use Rattle.mix_trial.proofs.ReadBids.{AreFew, bids_read}
+use Rattle.mix_trial.proofs.ReadCaps.{caps_read, ending}
 use Rattle.mix_trial.proofs.ReadOrders.{served, tail}
 use Rattle.mix_trial.proofs.ReadFields.{amounts_read, goods_read, head_read, then_is}
 
@@ -47,16 +49,28 @@ few_bids a is meets apart =
     let few = meets.bidders in
     record { names = omega (arith, length-map a.bidders (λ (bidder : List ℕ × Book). bidder.0)); under = under_meets (limits_of a.format) (length a.goods) a.bidders is.books apart meets.lists }
 
+-- the rows after those of the bids
+abbrev rows_after : AuctionText → List (List (List ℕ))
+rows_after a = cap_rows a.bidders a.caps ++ (order_rows a ++ end_row ∷ [])
+
 bids_there : (a : AuctionText) → IsAuction a → MeetsLimits a → Unlike (names a.bidders)
-    → bids_from a.format (limits_of a.format) (length a.goods) [] (numbered 5 (bidder_rows a.bidders ++ (order_rows a ++ end_row ∷ []))) ≡ Ok (bids_of a.bidders, numbered (5 + length (bids_of a.bidders)) (order_rows a ++ end_row ∷ []))
+    → bids_from a.format (limits_of a.format) (length a.goods) [] (numbered 5 (bidder_rows a.bidders ++ rows_after a)) ≡ Ok (bids_of a.bidders, numbered (5 + length (bids_of a.bidders)) (rows_after a))
 bids_there a is meets apart =
     let limits = limits_of a.format in
     let n = length a.goods in
     let all = all_named n a.bidders (each_name a.bidders is.names.form) is.books in
-    let after = tail a in
+    let after = ending a is in
     ap₂ (λ (rows last : List (List (List ℕ))). bids_from a.format limits n [] (numbered 5 (rows ++ last))) (sym (rows_same a.bidders)) after.are
     ∙ bids_read a.format limits n 5 [] (bids_of a.bidders) after.first after.rest after.stops all (few_bids a is meets apart)
     ∙ ap (λ (last : List (List (List ℕ))). Ok (bids_of a.bidders, numbered (5 + length (bids_of a.bidders)) last)) (sym after.are)
+
+caps_there : (a : AuctionText) → IsAuction a → (k : ℕ)
+    → caps_from a.format a.bidders (no_caps (length a.bidders)) (numbered k (rows_after a)) ≡ Ok (a.caps, numbered (k + length (cap_rows a.bidders a.caps)) (order_rows a ++ end_row ∷ []))
+caps_there a is k =
+    let after = tail a in
+    ap (λ (last : List (List (List ℕ))). caps_from a.format a.bidders (no_caps (length a.bidders)) (numbered k (cap_rows a.bidders a.caps ++ last))) after.are
+    ∙ caps_read a is k after.first after.rest after.no_cap
+    ∙ ap (λ (last : List (List (List ℕ))). Ok (a.caps, numbered (k + length (cap_rows a.bidders a.caps)) last)) (sym after.are)
 
 -- reading the rows gives the auction, and no row after it
 pub reading_back : (a : AuctionText) → IsAuction a → MeetsLimits a → reading_of (numbered 1 (auction_rows a)) ≡ Ok (a, record { rows = []; next = length (auction_rows a) + 1 })
@@ -80,13 +94,16 @@ reading_back a is meets =
     let bids = bids_there a is meets apart in
     let next = length-numbered 1 (auction_rows a) in
     let same = gathered n a.bidders is.books apart in
-    let after = served a is (5 + length (bids_of a.bidders)) (length rows + 1) in
-    let order = ap (λ (bidders : List (List ℕ × Book)). order_from a.format bidders (numbered (5 + length (bids_of a.bidders)) (order_rows a ++ end_row ∷ []))) same ∙ after.order in
+    let first = 5 + length (bids_of a.bidders) in
+    let caps = ap (λ (bidders : List (List ℕ × Book)). caps_from a.format bidders (no_caps (length bidders)) (numbered first (rows_after a))) same ∙ caps_there a is first in
+    let later = first + length (cap_rows a.bidders a.caps) in
+    let after = served a is later (length rows + 1) in
+    let order = ap (λ (bidders : List (List ℕ × Book)). order_from a.format bidders (numbered later (order_rows a ++ end_row ∷ []))) same ∙ after.order in
     then_is _ _ a.format _ zero (then_is _ _ a.goods _ one (then_is _ _ a.supply _ two (then_is _ _ a.reserve _ three (then_is _ _ (bids_of a.bidders, _) _ bids
-    (then_is _ _ (a.order, after.left) _ order (then_is _ _ [] _ after.end (last a same (length rows) (length (auction_rows a)) next)))))))
+    (then_is _ _ (a.caps, _) _ caps (then_is _ _ (a.order, after.left) _ order (then_is _ _ [] _ after.end (last a same (length rows) (length (auction_rows a)) next))))))))
   where
     last : (a : AuctionText) {bidders : List (List ℕ × Book)} → bidders ≡ a.bidders → (m k : ℕ) → m ≡ k
-        → ◌≡◌ {A = Result (AuctionText × RestText) TextError} (Ok (record { format = a.format; goods = a.goods; supply = a.supply; reserve = a.reserve; bidders = bidders; order = a.order }, record { rows = []; next = m + 1 })) (Ok (a, record { rows = []; next = k + 1 }))
+        → ◌≡◌ {A = Result (AuctionText × RestText) TextError} (Ok (record { format = a.format; goods = a.goods; supply = a.supply; reserve = a.reserve; bidders = bidders; caps = a.caps; order = a.order }, record { rows = []; next = m + 1 })) (Ok (a, record { rows = []; next = k + 1 }))
     last a same m k e = rw (same, e) refl
 
 -- reading the text gives the auction, and no row after it

@@ -1,5 +1,5 @@
 -- The rows of bids that pass no limit are read as these bids.
-use Rattle.std.proofs.Common.{◌≡◌, ◌∙◌, sym, ap, ap₂, refl, ◌<◌, ◌≤◌, ◌+◌, ◌&&◌, Bool, true, false, not, cond, inl, inr, ℕ, suc, List, [], ◌∷◌, ◌++◌, map, filter, length, append_assoc, append-nil, arith, All, Option, None, Some, Ok, true≢false}
+use Rattle.std.proofs.Common.{◌≡◌, ◌∙◌, sym, ap, ap₂, refl, ◌<◌, ◌≤◌, ◌+◌, ◌&&◌, ◌||◌, Bool, true, false, not, cond, inl, inr, ℕ, suc, List, [], ◌∷◌, ◌++◌, map, filter, length, append_assoc, append-nil, arith, All, Option, None, Some, Ok, true≢false}
 use Rattle.std.specs.Prelude.{nat_le, count_by}
 use Rattle.std.specs.Str.{bytes_eq}
 use Rattle.std.proofs.lemmas.Bool.{cases_Bool}
@@ -12,7 +12,7 @@ use Rattle.mix_bids.specs.Cells.{cells}
 use Rattle.mix_bids.specs.declared.bid.Bid.{Bid}
 use Rattle.mix_bids.proofs.CellPushes.{cells_rise}
 use Rattle.mix_text.specs.Bidders.{with_bid}
-use Rattle.mix_text.specs.Formats.{has_order, is_past}
+use Rattle.mix_text.specs.Formats.{has_caps, has_order, is_past}
 use Rattle.mix_text.specs.Limits.{BidsMeet}
 use Rattle.mix_text.specs.Names.{different, is_among}
 use Rattle.mix_text.specs.Reading.{NamedBid, bids_from, bids_under, ends_bids, is_negative, limit_of, list_limit_of, list_under, names_of}
@@ -136,10 +136,13 @@ no_limit limits n before b few =
 
 -- the row of a bid doesn't end the bids
 no_end : (format : ℕ) (b : NamedBid) → ends_bids format (named_row b) ≡ false
-no_end format b = elim (cases_Bool (has_order format)) [
-  | inl t ↦ rw t refl
-  | inr f ↦ rw f refl
-]
+no_end format b = other_words (has_order format) (has_caps format)
+  where
+    other_words : (t u : Bool) → ((t && false) || (u && false)) ≡ false
+    other_words true true = refl
+    other_words true false = refl
+    other_words false true = refl
+    other_words false false = refl
 
 -- the rows of bids and a row that ends them, after bids that were read before: these bids, and the rows from that row on
 pub bids_read : (format : ℕ) (limits : Limits) (n k : ℕ) (before bids : List NamedBid) (end : List (List ℕ)) (rest : List (List (List ℕ))) → ends_bids format end ≡ true → All (IsNamedBid n) bids → AreFew limits n (before ++ bids)

@@ -37,7 +37,8 @@ unfolding header_of
 head_read zero is = let some = is.0 in absurd (omega arith)
 head_read (suc zero) is = let e : decimal 1 ≡ codes "1" = decimal_digit 1 (omega arith) in rw e refl
 head_read (suc (suc zero)) is = let e : decimal 2 ≡ codes "2" = decimal_digit 2 (omega arith) in rw e refl
-head_read (suc (suc (suc n))) is = let few = is.1 in absurd (omega arith)
+head_read (suc (suc (suc zero))) is = let e : decimal 3 ≡ codes "3" = decimal_digit 3 (omega arith) in rw e refl
+head_read (suc (suc (suc (suc n)))) is = let few = is.1 in absurd (omega arith)
 
 -- ---- names
 
@@ -87,7 +88,7 @@ each_read {X = X} read show (x ∷ xs) h =
     let rest = each_read read show xs (All-tail P x xs h) in
     rw (first, rest) refl
 
-amount_read : (v : ℤ) → IsAmount v → number_in (pos 0) (pos 1000000) (signed_decimal v) ≡ Ok v
+pub amount_read : (v : ℤ) → IsAmount v → number_in (pos 0) (pos 1000000) (signed_decimal v) ≡ Ok v
 amount_read v h = number_read (pos 0) (pos 1000000) v (omega (arith, ints)) h.0 h.1
 
 same_test : (n : ℕ) → (n == n) ≡ true

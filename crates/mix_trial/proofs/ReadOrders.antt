@@ -1,15 +1,15 @@
 -- The printed row of the tie order is read as that order.
-use Rattle.std.proofs.Common.{◌≡◌, ◌≢◌, ◌∙◌, sym, ap, refl, subst, ◌<◌, ◌≤◌, ◌+◌, ◌-◌, ◌==◌, true, false, inl, inr, ℕ, suc, List, [], ◌∷◌, ◌++◌, map, length, get_or, append_assoc, append-nil, arith, Ok}
+use Rattle.std.proofs.Common.{◌≡◌, ◌≢◌, ◌∙◌, sym, ap, refl, subst, ◌<◌, ◌≤◌, ◌+◌, ◌-◌, ◌==◌, ◌&&◌, Bool, true, false, inl, inr, ℕ, suc, List, [], ◌∷◌, ◌++◌, map, length, get_or, append_assoc, append-nil, arith, Ok}
 use Rattle.std.proofs.lemmas.Bool.{cases_Bool, false_from_ne_true}
 use Rattle.std.proofs.lemmas.Bool.Decides.{nat_tests}
 use Rattle.std.proofs.lemmas.List.{get_or_append_left, get_or-append_right, length-append, length-map}
 use Rattle.mix_num.specs.Orders.{place_at}
 use Rattle.mix_text.specs.Auctions.{AuctionText, IsAuction}
 use Rattle.mix_text.specs.Bidders.{Named, name_at, names_at}
-use Rattle.mix_text.specs.Formats.{has_order}
+use Rattle.mix_text.specs.Formats.{has_caps, has_order}
 use Rattle.mix_text.specs.Names.{AreNames}
 use Rattle.mix_text.specs.Orders.{IsTieOrder, is_served}
-use Rattle.mix_text.specs.Reading.{end_from, end_of, ends_bids, order_from, order_row_of, served_after}
+use Rattle.mix_text.specs.Reading.{end_from, end_of, ends_bids, is_cap_row, order_from, order_row_of, served_after}
 use Rattle.mix_text.specs.Rows.{RowText, numbered}
 use Rattle.mix_text.proofs.OwnPlaces.{bidder_found}
 use Rattle.mix_trial.specs.Printing.{end_row, order_row, order_rows}
@@ -52,20 +52,25 @@ order_read bidders order names is =
     let read = served_read bidders [] order names (λ i l. is.within i (omega (arith, l, size))) (λ i j h l e. (let same = is.once i j (omega (arith, h, l, size)) (omega (arith, l, size)) e in omega (arith, same, h))) in
     rw count read
 
--- ---- the rows after those of the bids
+-- ---- the rows after those of the caps
 
--- these rows: one that ends the bids, and those after it
+-- these rows where no cap is left: one that ends the bids and is no cap, and those after it
 pub record Tail (a : AuctionText) : Type 0 where
   pub first : List (List ℕ)
   pub rest : List (List (List ℕ))
   pub are : order_rows a ++ end_row ∷ [] ≡ first ∷ rest
   pub stops : ends_bids a.format first ≡ true
+  pub no_cap : is_cap_row a.format first ≡ false
 
 pub tail : (a : AuctionText) → Tail a
 tail a = elim (cases_Bool (has_order a.format)) [
-  | inl t ↦ record { first = order_row a.bidders a.order; rest = end_row ∷ []; are = rw t refl; stops = rw t refl }
-  | inr f ↦ record { first = end_row; rest = []; are = rw f refl; stops = refl }
+  | inl t ↦ record { first = order_row a.bidders a.order; rest = end_row ∷ []; are = rw t refl; stops = rw t refl; no_cap = other_word (has_caps a.format) }
+  | inr f ↦ record { first = end_row; rest = []; are = rw f refl; stops = refl; no_cap = other_word (has_caps a.format) }
 ]
+  where
+    other_word : (t : Bool) → (t && false) ≡ false
+    other_word true = refl
+    other_word false = refl
 
 -- the order is read from them, and then the last row
 pub record Served (a : AuctionText) (rows : List RowText) (next : ℕ) : Type 0 where

@@ -1,5 +1,5 @@
 -- A trial auction is an auction, and keeps to the limits of its format.
-use Rattle.std.proofs.Common.{◌≡◌, ap, refl, ◌<◌, ◌≤◌, ◌+◌, ◌*◌, ◌%◌, Bool, true, false, cond, ℕ, zero, suc, ℤ, pos, neg_ℤ, List, [], ◌∷◌, map, length, length-append, arith, All, Some, int_lt}
+use Rattle.std.proofs.Common.{◌≡◌, ap, refl, ◌<◌, ◌≤◌, ◌+◌, ◌*◌, ◌%◌, Bool, true, false, cond, ℕ, zero, suc, ℤ, pos, neg_ℤ, List, [], ◌∷◌, map, length, length-append, arith, All, Option, Some, int_lt}
 use Rattle.std.specs.Prelude.{count_by}
 use Rattle.std.specs.List.{AllPass}
 use Rattle.std.proofs.lemmas.Int.{ints}
@@ -11,6 +11,7 @@ use Rattle.mix_bids.specs.Bids.{Book}
 use Rattle.mix_bids.specs.declared.bid.Bid.{Bid}
 use Rattle.mix_text.specs.Auctions.{AuctionText, IsAuction, IsBook}
 use Rattle.mix_text.specs.Bidders.{Named}
+use Rattle.mix_text.specs.Caps.{no_caps}
 use Rattle.mix_text.specs.Formats.{limits_of, mix_one}
 use Rattle.mix_text.specs.Limits.{BidsMeet, MeetsLimits}
 use Rattle.mix_text.specs.Names.{AreNames, is_among}
@@ -18,6 +19,7 @@ use Rattle.mix_text.specs.Reading.{is_negative}
 use Rattle.mix_text.specs.Spelling.{is_name}
 use Rattle.mix_text.proofs.FormatLimits.{fewer_past}
 use Rattle.mix_text.proofs.Gathering.{Unlike, different_same}
+use Rattle.mix_text.proofs.NoCaps.{are_no_caps}
 use Rattle.mix_text.proofs.TieOrders.{as_they_stand}
 use Rattle.mix_trial.specs.Draws.{alone, for_each}
 use Rattle.mix_trial.specs.Trials.{amount, auction, bid_of, bidder, bidder_name, bids, block, block_bids, good_names, one_value, single, two_values}
@@ -149,8 +151,10 @@ auction_is words =
       names = rw (names_are 40 1 last) forty_names;
       few_bidders = omega arith;
       books = books_are last;
+      caps = are_no_caps (for_each 40 1 bidder last).0;
       order = as_they_stand (length (for_each 40 1 bidder last).0);
       first_format = λ e. refl;
+      uncapped = λ few. refl;
     }
 
 pub auction_meets : (words : Words) → MeetsLimits (auction words).0
@@ -163,8 +167,8 @@ auction_meets words =
 
 -- ---- what was drawn is the auction of the words
 
-pub auction_drawn : (w0 w1 w2 : Words) (goods : List (List ℕ)) (supply reserve : List ℤ) (bidders : Named) (order : List ℕ)
+pub auction_drawn : (w0 w1 w2 : Words) (goods : List (List ℕ)) (supply reserve : List ℤ) (bidders : Named) (caps : List (Option ℤ)) (order : List ℕ)
     → goods ≡ good_names → supply ≡ (for_each 5 1 (λ _. alone (amount 100 100)) w0).0 → w1 ≡ (for_each 5 1 (λ _. alone (amount 100 100)) w0).1
-    → reserve ≡ (for_each 5 1 (λ _. alone (amount 0 100)) w1).0 → w2 ≡ (for_each 5 1 (λ _. alone (amount 0 100)) w1).1 → bidders ≡ (for_each 40 1 bidder w2).0 → order ≡ places (length bidders)
-    → ◌≡◌ {A = AuctionText} (record { format = 1; goods = goods; supply = supply; reserve = reserve; bidders = bidders; order = order }) (auction w0).0
-auction_drawn w0 w1 w2 goods supply reserve bidders order g s e r f b o = rw (o, g, s, b, f, r, e) refl
+    → reserve ≡ (for_each 5 1 (λ _. alone (amount 0 100)) w1).0 → w2 ≡ (for_each 5 1 (λ _. alone (amount 0 100)) w1).1 → bidders ≡ (for_each 40 1 bidder w2).0 → caps ≡ no_caps (length bidders) → order ≡ places (length bidders)
+    → ◌≡◌ {A = AuctionText} (record { format = 1; goods = goods; supply = supply; reserve = reserve; bidders = bidders; caps = caps; order = order }) (auction w0).0
+auction_drawn w0 w1 w2 goods supply reserve bidders caps order g s e r f b c o = rw (o, c, g, s, b, f, r, e) refl

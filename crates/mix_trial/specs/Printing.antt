@@ -32,6 +32,21 @@ abbrev pub bidder_rows : Named → List (List (List ℕ))
 bidder_rows [] = []
 bidder_rows (bidder ∷ rest) = map (bid_row bidder.0) bidder.1.bids ++ bidder_rows rest
 
+-- the row of a cap: the bidder's name, and how many units it takes at most
+abbrev pub cap_row : List ℕ → ℤ → List (List ℕ)
+cap_row name cap = codes "cap" ∷ name ∷ signed_decimal cap ∷ []
+
+-- this row, where the bidder has a cap
+abbrev pub own_cap_rows : List ℕ → Option ℤ → List (List (List ℕ))
+own_cap_rows name None = []
+own_cap_rows name (Some cap) = cap_row name cap ∷ []
+
+-- the rows of the bidders' caps in the bidders' order, those without a cap left out
+abbrev pub cap_rows : Named → List (Option ℤ) → List (List (List ℕ))
+cap_rows [] caps = []
+cap_rows (bidder ∷ rest) [] = []
+cap_rows (bidder ∷ rest) (cap ∷ caps) = own_cap_rows bidder.0 cap ++ cap_rows rest caps
+
 -- the row of the tie order: the names of the bidders in it
 abbrev pub order_row : Named → List ℕ → List (List ℕ)
 order_row bidders order = codes "order" ∷ names_at bidders order
@@ -48,4 +63,4 @@ end_row = codes "end" ∷ []
 abbrev pub auction_rows : AuctionText → List (List (List ℕ))
 auction_rows a =
     head_row a.format ∷ goods_row a.goods ∷ amounts_row (codes "supply") a.supply ∷ amounts_row (codes "reserve") a.reserve
-    ∷ (bidder_rows a.bidders ++ (order_rows a ++ end_row ∷ []))
+    ∷ (bidder_rows a.bidders ++ (cap_rows a.bidders a.caps ++ (order_rows a ++ end_row ∷ [])))

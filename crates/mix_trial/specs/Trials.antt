@@ -7,6 +7,7 @@ use Rattle.mix_bids.specs.Offers.{Offers, offers_some}
 use Rattle.mix_bids.specs.declared.bid.Bid.{Bid}
 use Rattle.mix_text.specs.Auctions.{AuctionText}
 use Rattle.mix_text.specs.Bidders.{Named}
+use Rattle.mix_text.specs.Caps.{no_caps}
 use Rattle.mix_trial.specs.Draws.{Drawing, alone, drawn, for_each}
 use Rattle.mix_trial.specs.Words.{generator_of}
 
@@ -71,13 +72,13 @@ bidder k words = let list = bids words in ((bidder_name k, record { goods = 5; b
 abbrev pub good_names : List (List ℕ)
 good_names = codes "A" ∷ codes "B" ∷ codes "C" ∷ codes "D" ∷ codes "E" ∷ []
 
--- the auction, of format 1: five supplies, five reserves, forty bidders, who are served as they come
+-- the auction, of format 1: five supplies, five reserves, forty bidders, who have no caps and are served as they come
 abbrev pub auction : Drawing AuctionText
 auction words =
     let supply = for_each 5 1 (λ _. alone (amount 100 100)) words in
     let reserve = for_each 5 1 (λ _. alone (amount 0 100)) supply.1 in
     let bidders = for_each 40 1 bidder reserve.1 in
-    (record { format = 1; goods = good_names; supply = supply.0; reserve = reserve.0; bidders = bidders.0; order = places (length bidders.0) }, bidders.1)
+    (record { format = 1; goods = good_names; supply = supply.0; reserve = reserve.0; bidders = bidders.0; caps = no_caps (length bidders.0); order = places (length bidders.0) }, bidders.1)
 
 -- the trial auction of a list of words
 abbrev pub trial_auction : List ℕ → AuctionText

@@ -7,13 +7,14 @@ ghost use Rattle.mix_text.specs.Reading.{reading_of};
 ghost use Rattle.mix_text.specs.Rows.{rows_of};
 ghost use Rattle.mix_trial.specs.Printing.{auction_rows};
 
-use crate::rows::{add_amounts, add_bidders, add_end, add_goods, add_head, add_order};
+use crate::rows::{add_amounts, add_bidders, add_caps, add_end, add_goods, add_head, add_order};
 use mix_num::Memory;
 use mix_text::{Auction, Page};
 use std::alloc::Global;
 
 /// The text of an auction that keeps to the limits of its format, the bids of each bidder together: its rows, each with
-/// its fields joined by commas and ended by a line feed. From format 2 on the tie order is stated.
+/// its fields joined by commas and ended by a line feed. From format 2 on the tie order is stated, and from
+/// format 3 on the cap of each bidder that has one, before it.
 ///
 /// Reading the text gives the same auction, and no row after it.
 pub fn print_auction(alloc: Global, auction: &Auction) -> Result<Vec<u8>, Memory>
@@ -27,6 +28,7 @@ pub fn print_auction(alloc: Global, auction: &Auction) -> Result<Vec<u8>, Memory
     add_amounts(&mut page, b"supply", &auction.supply)?;
     add_amounts(&mut page, b"reserve", &auction.reserve)?;
     add_bidders(&mut page, auction)?;
+    add_caps(&mut page, auction)?;
     add_order(&mut page, auction)?;
     add_end(&mut page)?;
     page.finish()

@@ -5,7 +5,7 @@ ghost use Rattle.mix_text.specs.AuctionTexts.{auction_text};
 ghost use Rattle.mix_text.specs.Bidders.{names_at};
 ghost use Rattle.mix_text.specs.Pages.{is_printable, line_of, printed};
 ghost use Rattle.mix_text.specs.Spelling.{is_name};
-ghost use Rattle.mix_trial.specs.Printing.{amounts_row, bid_row, bidder_rows, end_row, goods_row, head_row, order_rows, value_text};
+ghost use Rattle.mix_trial.specs.Printing.{amounts_row, bid_row, bidder_rows, cap_rows, end_row, goods_row, head_row, order_rows, own_cap_rows, value_text};
 
 use mix_bids::Bid;
 use mix_num::Memory;
@@ -109,6 +109,34 @@ pub fn add_bidders(page: &mut Page, auction: &Auction) -> Result<(), Memory>
     for k in 0..auction.count() {
         let (name, list) = auction.bidder(k);
         add_bids(page, name, list.bids())?;
+    }
+    Ok(())
+}
+
+// Adds the row of a bidder's cap, where it has one.
+fn add_cap(page: &mut Page, name: &Name, cap: Option<i64>) -> Result<(), Memory>
+    requires closed { page.old.fields ≡ [] }
+    requires name { is_name name.now.bytes ≡ true }
+    ensures { OnOk result (page.new ≡ record { ended = page.old.ended ++ printed (own_cap_rows name.now.bytes cap); fields = [] }) }
+{
+    let Some(cap) = cap else {
+        return Ok(());
+    };
+    page.text(b"cap")?;
+    page.name(name)?;
+    page.number(cap)?;
+    page.end_row()
+}
+
+/// Adds the rows of the bidders' caps in the bidders' order, those without a cap left out.
+#[tactic(auto, using(crate::proofs::PrintedBids::caps_counted, crate::proofs::PrintedBids::caps_end, crate::proofs::PrintedBids::caps_more, mix_text::proofs::AuctionNames::bidder_named))]
+pub fn add_caps(page: &mut Page, auction: &Auction) -> Result<(), Memory>
+    requires { page.old.fields ≡ [] }
+    ensures { OnOk result (page.new ≡ record { ended = page.old.ended ++ printed (cap_rows auction.now.bidders auction.now.caps); fields = [] }) }
+{
+    for k in 0..auction.count() {
+        let (name, _) = auction.bidder(k);
+        add_cap(page, name, auction.cap(k))?;
     }
     Ok(())
 }

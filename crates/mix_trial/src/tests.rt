@@ -1,6 +1,7 @@
 // What is made and printed where memory is ample.
 use crate::printing::print_auction;
 use crate::trial::make;
+use mix_num::Memory;
 use mix_text::{no_rest, read_auction};
 use std::alloc::Global;
 use std::test::Fail;
@@ -25,11 +26,12 @@ fn texts(rt: HostRuntime) -> Result<(), Fail> {
     Ok(())
 }
 
-// The tie order is stated in format 2, also where the text that was read leaves it out.
+// From format 2 on the tie order is stated, also where the text that was read leaves it out; in format 3 the caps stand before it, in
+// the order of the bidders.
 #[test]
-fn orders(rt: HostRuntime) -> Result<(), Fail> {
+fn orders_and_caps(rt: HostRuntime) -> Result<(), Fail> {
     let alloc = rt.alloc();
-    let cases: [(&[u8], &[u8]); 2] = [
+    let cases: [(&[u8], &[u8]); 4] = [
         (
             b"mix,2\ngoods,A\nsupply,1\nreserve,0\nbid,P,1,5\nbid,Q,1,5\norder,Q,P\nend\n",
             b"mix,2\ngoods,A\nsupply,1\nreserve,0\nbid,P,1,5\nbid,Q,1,5\norder,Q,P\nend\n",
@@ -37,6 +39,14 @@ fn orders(rt: HostRuntime) -> Result<(), Fail> {
         (
             b"mix,2\ngoods,A\nsupply,1\nreserve,0\nbid,P,1,5\nbid,Q,1,5\nend\n",
             b"mix,2\ngoods,A\nsupply,1\nreserve,0\nbid,P,1,5\nbid,Q,1,5\norder,P,Q\nend\n",
+        ),
+        (
+            b"mix,3\ngoods,A\nsupply,4\nreserve,0\nbid,P,1,5\nbid,Q,2,5\nbid,R,3,4\ncap,P,1000000\ncap,R,0\norder,R,P,Q\nend\n",
+            b"mix,3\ngoods,A\nsupply,4\nreserve,0\nbid,P,1,5\nbid,Q,2,5\nbid,R,3,4\ncap,P,1000000\ncap,R,0\norder,R,P,Q\nend\n",
+        ),
+        (
+            b"mix,3\ngoods,A\nsupply,4\nreserve,0\nbid,P,1,5\nbid,Q,2,5\nbid,R,3,4\ncap,R,0\ncap,Q,1\nend\n",
+            b"mix,3\ngoods,A\nsupply,4\nreserve,0\nbid,P,1,5\nbid,Q,2,5\nbid,R,3,4\ncap,Q,1\ncap,R,0\norder,P,Q,R\nend\n",
         ),
     ];
     for (given, wanted) in cases {
@@ -52,9 +62,9 @@ fn orders(rt: HostRuntime) -> Result<(), Fail> {
 }
 
 // The text of the trial auction of a number.
-fn trial_text(alloc: Global, seed: u64) -> Option<Vec<u8>> {
-    let auction = make(alloc, seed).ok()?;
-    print_auction(alloc, &auction).ok()
+fn trial_text(alloc: Global, seed: u64) -> Result<Vec<u8>, Memory> {
+    let auction = make(alloc, seed)?;
+    print_auction(alloc, &auction)
 }
 
 // A trial auction: its number, how long its text is, and how that begins and ends.
@@ -91,7 +101,7 @@ fn trials(rt: HostRuntime) -> Result<(), Fail> {
         },
     ];
     for case in &cases {
-        let text = trial_text(alloc, case.seed).ok_or("a text")?;
+        let text = trial_text(alloc, case.seed).ok().ok_or("a text")?;
         assert_eq!(rt; text.len(), case.length);
         assert!(rt; text.starts_with(case.first));
         assert!(rt; text.ends_with(case.last));

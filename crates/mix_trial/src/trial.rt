@@ -9,7 +9,7 @@ use crate::bidders::draw_bidders;
 use crate::draws::draw_amounts;
 use crate::naming::good_names;
 use mix_num::Memory;
-use mix_text::{Auction, Order};
+use mix_text::{Auction, Caps, Order};
 use rand_core::SeedableRng;
 use rand_pcg::Lcg64Xsh32;
 use std::alloc::Global;
@@ -18,7 +18,7 @@ use std::alloc::Global;
 ///
 /// Five goods, A to E, of each 100 to 199 units, with reserves from 0 to 99; forty bidders, B01 to B40, each with four
 /// blocks of four bids and sixteen single bids. In a block one bid of four is negative. Every list is convex, and the
-/// auction keeps to the limits of its format, which is 1. The bidders are served in order of first appearance.
+/// auction keeps to the limits of its format, which is 1. No bidder has a cap; the bidders are served in order of first appearance.
 pub fn make(alloc: Global, seed: u64) -> Result<Auction, Memory>
     ensures text { IfOk result (λ auction. auction_text auction ≡ trial_auction (trial_words seed)) }
     ensures convex { IfOk result (λ auction. All (λ bidder. IsConvexList bidder.1.bids) auction.bidders) }
@@ -29,6 +29,7 @@ pub fn make(alloc: Global, seed: u64) -> Result<Auction, Memory>
     let supply = draw_amounts(&mut words, 100, 100);
     let reserve = draw_amounts(&mut words, 0, 100);
     let bidders = draw_bidders(alloc, &mut words)?;
+    let caps = Caps::none(alloc, bidders.count())?;
     let order = Order::of_appearance(alloc, bidders.count())?;
     Ok(Auction {
         format: 1,
@@ -36,6 +37,7 @@ pub fn make(alloc: Global, seed: u64) -> Result<Auction, Memory>
         supply,
         reserve,
         bidders,
+        caps,
         order,
     })
 }
