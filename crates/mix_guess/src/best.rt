@@ -5,9 +5,9 @@ use mix_bids::Bid;
 
 /// Of the choices looked at so far, the greatest gain, and the bits of those that have it.
 #[derive(Clone, Copy, Drop)]
-struct Best {
-    gain: i64,
-    choices: usize,
+pub struct Best {
+    pub gain: i64,
+    pub choices: usize,
 }
 
 impl Best {
@@ -37,8 +37,9 @@ impl Best {
     }
 }
 
-/// The bits of the choices, the null choice among them, with the greatest value less price, counted in whole lengths of `2^halvings`.
-pub fn best_choices(bid: &Bid, prices: &[i64; 8], halvings: u32) -> usize
+/// The greatest value less price, counted in whole lengths of `2^halvings`, and the bits of the choices, the null choice among
+/// them, that have it.
+pub fn best_choices(bid: &Bid, prices: &[i64; 8], halvings: u32) -> Best
     requires { halvings ≤ 19 }
 {
     let offers = bid.values.as_slice();
@@ -52,5 +53,5 @@ pub fn best_choices(bid: &Bid, prices: &[i64; 8], halvings: u32) -> usize
             best = best.with(i + 1, offers[i], prices[i], halvings);
         }
     }
-    best.choices
+    best
 }

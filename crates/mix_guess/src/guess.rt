@@ -3,19 +3,21 @@ ghost use Rattle.std.specs.Prelude.{◌≡◌, ◌<◌, ◌≤◌, ◌≤ℤ◌,
 ghost use Rattle.mix_num.specs.Ranges.{AreWithin};
 ghost use Rattle.mix_market.specs.Markets.{goods_of, reserves_of};
 
+use crate::look::Look;
 use crate::steps::{steepest_fall, steepest_rise};
 use crate::tally::Tally;
+use mix_cap::Member;
 use mix_market::Market;
 use mix_num::{Prices, Set};
-use mix_validity::ValidList;
 
 /// A guess of the least point of the market's Lyapunov function at or above the reserves: prices from the reserves to 1,000,000.
 /// It takes no memory.
 ///
 /// How near it comes no contract says. It steps up and down along the steepest sets of goods, by lengths that are halved
 /// wherever no step leads on. At each length it takes the bids for bids in whole lengths, so that one look at all bids tells
-/// where the function falls over that length, not only at its start; at the last length that is exact.
-pub fn guess_prices(market: &Market<ValidList>) -> Prices
+/// where the function falls over that length, not only at its start; at the last length that is exact. Of the bids of a bidder
+/// with a cap it counts as many units as the cap lets through.
+pub fn guess_prices(market: &Market<Member>) -> Prices
     ensures range { AreWithin 1000000 (goods_of market.now) result.items }
     ensures floor { (k : ℕ) → k < goods_of market.now → get_or (reserves_of market.now) k (pos 0) ≤ℤ get_or result.items k (pos 0) }
 {
@@ -23,20 +25,20 @@ pub fn guess_prices(market: &Market<ValidList>) -> Prices
     let floor = numbers(reserve);
     let supply = Tally::of_goods(market.seller().supply());
     let top = highest_top(market);
-    let mut weights = Tally::new();
+    let mut look = Look::new();
     let mut prices = floor;
     // No value is above 1,000,000, which is less than 2^20.
     for past in 0..20 {
         let halvings = 19 - past;
         if 1 << halvings <= top {
-            settle(market, &supply, &floor, halvings, &mut weights, &mut prices);
+            settle(market, &supply, &floor, halvings, &mut look, &mut prices);
         }
     }
     bounded(&prices, reserve)
 }
 
 /// The greatest of the members' tops of all goods.
-fn highest_top(market: &Market<ValidList>) -> i64 {
+fn highest_top(market: &Market<Member>) -> i64 {
     let mut highest = 0;
     for place in 0..market.seller().supply().len() {
         highest = market.top(place + 1).max(highest);
@@ -46,11 +48,11 @@ fn highest_top(market: &Market<ValidList>) -> i64 {
 
 /// Steps of a length of `2^halvings` from the prices for as long as they lead on, and at most some few.
 fn settle(
-    market: &Market<ValidList>,
+    market: &Market<Member>,
     supply: &Tally,
     floor: &[i64; 8],
     halvings: u32,
-    weights: &mut Tally,
+    look: &mut Look,
     prices: &mut [i64; 8],
 )
     requires { halvings ≤ 19 }
@@ -58,9 +60,9 @@ fn settle(
     let n = market.seller().supply().len();
     let length = 1 << halvings;
     for _ in 0..4 * n + 8 {
-        look(market, prices, halvings, weights);
-        let rise = steepest_rise(weights, supply, n);
-        let fall = steepest_fall(weights, supply, free(prices, floor, length), n);
+        look.count(market, prices, halvings);
+        let rise = steepest_rise(look.weights(), supply, n);
+        let fall = steepest_fall(look.weights(), supply, free(prices, floor, length), n);
         if rise.slope < fall.slope {
             shift(prices, rise.set, length);
         } else if fall.set.bits() != 0 {
@@ -69,18 +71,6 @@ fn settle(
             return;
         }
     }
-}
-
-/// For each set of choices the weights of the bids that like best some of the set, at the prices and in whole lengths.
-fn look(market: &Market<ValidList>, prices: &[i64; 8], halvings: u32, weights: &mut Tally)
-    requires { halvings ≤ 19 }
-{
-    let n = market.seller().supply().len();
-    weights.clear(n);
-    for member in market.members() {
-        weights.add_bids(member.list(), prices, halvings);
-    }
-    weights.sum_over_subsets(n);
 }
 
 /// The goods that can fall by the length and stay at or above the floor.

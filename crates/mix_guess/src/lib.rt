@@ -4,6 +4,8 @@
 
 mod best;
 mod guess;
+mod likings;
+mod look;
 mod steps;
 mod tally;
 

@@ -51,12 +51,22 @@ impl Tally {
         requires { halvings ≤ 19 }
     {
         for bid in list.bids() {
-            self.add(best_choices(bid, prices, halvings), bid.weight);
+            self.add(best_choices(bid, prices, halvings).choices, bid.weight);
+        }
+    }
+
+    /// Adds to the number of each set of the choices 0 to n by how much its number in the other tally passes the spare.
+    pub fn add_passing(&mut self, other: &Tally, spare: i64, n: usize)
+        requires { n ≤ 8 }
+    {
+        for bits in 0..sets_of(n) {
+            let passing = other.numbers[bits].wrapping_sub(spare).max(0);
+            self.numbers[bits] = self.numbers[bits].wrapping_add(passing);
         }
     }
 
     /// Adds to the number of the set with these bits, of which those of the choices 0 to 8 count.
-    fn add(&mut self, bits: usize, by: i64) {
+    pub fn add(&mut self, bits: usize, by: i64) {
         let bits = bits & 511;
         self.numbers[bits] = self.numbers[bits].wrapping_add(by);
     }

@@ -1,28 +1,19 @@
--- The least prices of an auction whose lists are convex are its least clearing prices.
-use Rattle.std.proofs.Common.{◌≡◌, ◌↔◌, ℕ, ◌<◌, ℤ, List, [], length, get_or, refl, sym, ◌∙◌, subst, arith}
+-- The least prices of an auction whose bidders are convex are its least clearing prices.
+use Rattle.std.proofs.Common.{◌≡◌, ◌↔◌, ℕ, ◌<◌, ℤ, List, length, refl, sym, ◌∙◌, subst, arith}
 use Rattle.std.proofs.lemmas.Int.{ints}
-use Rattle.std.proofs.lemmas.List.{get_or_default}
 use Rattle.mix_num.specs.Vectors.{with_null}
 use Rattle.mix_num.specs.Sellers.{IsForSale}
-use Rattle.mix_bids.specs.Bids.{AreBids, Book}
-use Rattle.mix_bids.specs.Convexity.{IsConvexList}
-use Rattle.mix_bids.specs.declared.bid.Bid.{Bid}
-use Rattle.mix_validity.proofs.ListLaws.{KeepsSmallLaws, lists_keep_laws}
+use Rattle.mix_validity.proofs.ListLaws.{KeepsSmallLaws}
 use Rattle.mix_text.specs.Auctions.{AuctionText, IsAuction}
 use Rattle.mix_market.specs.Lyapunov.{IsLeastPoint, lyapunov}
 use Rattle.mix_clearing.specs.Clearings.{AreLeastClearing, bidder_utility}
 use Rattle.mix_answer.specs.Refusals.{AreConvex}
 use Rattle.mix_answer.specs.Utilities.{utilities_of}
+use Rattle.mix_answer.proofs.Entrants.{length-utilities, utilities_keep_laws}
 use Rattle.mix_solve.specs.LeastPrices.{AreLeastPrices}
 use Rattle.mix_solve.proofs.LeastPointsClear.{least_point-exactly}
 
-module _ (a : AuctionText) (is : IsAuction a) (convex : AreConvex a.bidders) where
-  abbrev nobody : List ℕ × Book
-  nobody = ([], record { goods = 0; bids = [] })
-
-  abbrev bids : List ℕ × Book → List Bid
-  bids bidder = bidder.1.bids
-
+module _ (a : AuctionText) (is : IsAuction a) (convex : AreConvex a) where
   goods : length a.supply ≡ length a.goods
   goods = is.supply.0
 
@@ -35,21 +26,20 @@ module _ (a : AuctionText) (is : IsAuction a) (convex : AreConvex a.bidders) whe
   }
 
   -- each utility keeps the laws of members, with a small total
-  each : (k : ℕ) → k < length (utilities_of a.bidders) → KeepsSmallLaws (length a.supply) (bidder_utility (utilities_of a.bidders) k)
-  each = lists_keep_laws (length a.supply) bids a.bidders
-      (λ k d l. subst (λ (n : ℕ). AreBids n (bids (get_or a.bidders k d))) (sym goods) (is.books k d l).bids)
-      (λ k d l. (is.books k d l).few)
-      (λ k d l. subst (λ (bidder : List ℕ × Book). IsConvexList (bids bidder)) (get_or_default a.bidders k nobody d l) (convex k l))
+  each : (k : ℕ) → k < length (utilities_of a) → KeepsSmallLaws (length a.supply) (bidder_utility (utilities_of a) k)
+  each k l =
+      let n = length-utilities a in
+      subst (λ (m : ℕ). KeepsSmallLaws m (bidder_utility (utilities_of a) k)) (sym goods) (utilities_keep_laws a is convex k (omega (arith, n, l)))
 
   exactly : (prices : List ℤ) → length prices ≡ length a.supply
-      → IsLeastPoint (length a.supply) (lyapunov (utilities_of a.bidders) a.supply) (with_null a.reserve) (with_null prices) ↔ AreLeastClearing (utilities_of a.bidders) a.supply a.reserve prices
-  exactly prices = least_point-exactly (utilities_of a.bidders) a.supply a.reserve prices (λ k l. (each k l).laws) (λ k l. let h = (each k l).small in omega (arith, ints, h)) sale
+      → IsLeastPoint (length a.supply) (lyapunov (utilities_of a) a.supply) (with_null a.reserve) (with_null prices) ↔ AreLeastClearing (utilities_of a) a.supply a.reserve prices
+  exactly prices = least_point-exactly (utilities_of a) a.supply a.reserve prices (λ k l. (each k l).laws) (λ k l. let h = (each k l).small in omega (arith, ints, h)) sale
 
-  pub least_prices-exactly : (prices : List ℤ) → AreLeastPrices a prices ↔ AreLeastClearing (utilities_of a.bidders) a.supply a.reserve prices
+  pub least_prices-exactly : (prices : List ℤ) → AreLeastPrices a prices ↔ AreLeastClearing (utilities_of a) a.supply a.reserve prices
   least_prices-exactly prices = (
     (λ least. (exactly prices (least.count ∙ sym goods)).0 (subst Least (sym goods) least.least)),
     λ are. let long = are.clear.2.size in record { count = long ∙ goods; least = subst Least goods ((exactly prices long).1 are) },
   )
     where
       Least : ℕ → Type 0
-      Least n = IsLeastPoint n (lyapunov (utilities_of a.bidders) a.supply) (with_null a.reserve) (with_null prices)
+      Least n = IsLeastPoint n (lyapunov (utilities_of a) a.supply) (with_null a.reserve) (with_null prices)

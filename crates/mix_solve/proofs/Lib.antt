@@ -4,6 +4,6 @@ mod AnswerShapes
 mod AuctionLaws
 mod FilledRows
 mod LeastPointsClear
-mod ListsInOrder
 mod MarketShares
+mod MembersInOrder
 pub mod PutBack

@@ -8,4 +8,4 @@ use Rattle.mix_answer.specs.Utilities.{utilities_of}
 -- a price for each good: of all at or above the reserves, the least point of the bidders' utilities and the supply's worth
 pub record AreLeastPrices (a : AuctionText) (prices : List ℤ) : Type 0 where
   pub count : length prices ≡ length a.goods
-  pub least : IsLeastPoint (length a.goods) (lyapunov (utilities_of a.bidders) a.supply) (with_null a.reserve) (with_null prices)
+  pub least : IsLeastPoint (length a.goods) (lyapunov (utilities_of a) a.supply) (with_null a.reserve) (with_null prices)

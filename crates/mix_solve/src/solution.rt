@@ -1,7 +1,6 @@
 // The whole way from an auction to its outcome.
 ghost use Rattle.std.specs.Prelude.{◌≡◌, ◌↔◌, length, map, IfOk};
-ghost use Rattle.mix_bids.specs.Bids.{utility};
-ghost use Rattle.mix_validity.specs.ValidLists.{book_of};
+ghost use Rattle.mix_cap.specs.MemberLaws.{function_of};
 ghost use Rattle.mix_text.specs.AuctionTexts.{auction_text};
 ghost use Rattle.mix_text.specs.Orders.{IsTieOrder};
 ghost use Rattle.mix_seller.specs.Sellers.{reserve_of, supply_of};
@@ -20,27 +19,27 @@ use crate::charging::charge;
 use crate::least::least_prices;
 use crate::sharing::share_out;
 use mix_answer::{Answer, Outcome, Tights};
+use mix_cap::Member;
 use mix_market::Market;
 use mix_num::{Memory, Tight};
 use mix_text::{Auction, Order};
-use mix_validity::ValidList;
 use std::alloc::Global;
 
-/// The outcome of an auction. Where each bidder's list is convex, it is the answer: the least clearing prices at or above the
+/// The outcome of an auction. Where each bidder is convex, it is the answer: the least clearing prices at or above the
 /// reserves, the bundles that clear there by the tie rule in the auction's tie order, what each bidder pays, what is
-/// left with the seller, and the first tight pair of each bidder and each good. Else it is a refusal of the first bidder whose
-/// list isn't convex, with a facet of it that has negative weight.
+/// left with the seller, and the first tight pair of each bidder and each good. Else it is a refusal of the first bidder that
+/// isn't convex, with a facet of its list that has negative weight.
 ///
 /// No other allocation is worth more than that of an answer, and no prices with fractions clear below its prices. `Memory`
 /// comes where memory is wanting.
 pub fn solve(alloc: Global, auction: &Auction) -> Result<Outcome, Memory>
     ensures true_outcome { IfOk result (IsTrueOutcome (auction_text auction.now)) }
     ensures shape { IfOk result (HasShape (auction_text auction.now)) }
-    ensures refused { IfOk result (λ outcome. IsRefusal outcome ↔ ¬ AreConvex auction.now.bidders) }
-    ensures cleared { IfOk result (λ outcome. IsCleared outcome ↔ AreConvex auction.now.bidders) }
+    ensures refused { IfOk result (λ outcome. IsRefusal outcome ↔ ¬ AreConvex (auction_text auction.now)) }
+    ensures cleared { IfOk result (λ outcome. IsCleared outcome ↔ AreConvex (auction_text auction.now)) }
     ensures first_tights { IfOk result (OfAnswer (HaveFirstTights (auction_text auction.now))) }
-    ensures worth { IfOk result (OfAnswer (λ answer. AreWorthMost (utilities_of auction.now.bidders) auction.now.supply.items auction.now.reserve.items (bundles_of answer) answer.returns.items)) }
-    ensures fractions { IfOk result (OfAnswer (λ answer. AreLeastOfFractions (scaled_utilities_of auction.now.bidders) auction.now.supply.items auction.now.reserve.items answer.prices.items)) }
+    ensures worth { IfOk result (OfAnswer (λ answer. AreWorthMost (utilities_of (auction_text auction.now)) auction.now.supply.items auction.now.reserve.items (bundles_of answer) answer.returns.items)) }
+    ensures fractions { IfOk result (OfAnswer (λ answer. AreLeastOfFractions (scaled_utilities_of (auction_text auction.now)) auction.now.supply.items auction.now.reserve.items answer.prices.items)) }
 {
     match admit(alloc, auction)? {
         Admitted::Refused(refusal) => Ok(Outcome::Refused(refusal)),
@@ -53,9 +52,9 @@ pub fn solve(alloc: Global, auction: &Auction) -> Result<Outcome, Memory>
 }
 
 /// The answer of a market, whose members are served in the tie order.
-fn answer_of(alloc: Global, market: &Market<ValidList>, order: &Order) -> Result<Answer, Memory>
+fn answer_of(alloc: Global, market: &Market<Member>, order: &Order) -> Result<Answer, Memory>
     requires { IsTieOrder (length (members_of market.now)) order.now }
-    ensures { IfOk result (IsAnswerFor (map (λ valid. utility (book_of valid).bids) (members_of market.now)) (supply_of (seller_of market.now)) (reserve_of (seller_of market.now)) order.now) }
+    ensures { IfOk result (IsAnswerFor (map function_of (members_of market.now)) (supply_of (seller_of market.now)) (reserve_of (seller_of market.now)) order.now) }
 {
     let prices = least_prices(market);
     let sharing = share_out(alloc, market, order, &prices)?;

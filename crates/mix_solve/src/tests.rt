@@ -6,12 +6,12 @@ ghost use Rattle.mix_market.specs.Markets.{goods_of};
 
 use crate::{Admitted, admit, least_prices, solve};
 use mix_answer::{Outcome, print_outcome};
+use mix_cap::Member;
 use mix_descent::{descend, descend_near};
 use mix_market::Market;
 use mix_num::Prices;
 use mix_step::Steps;
 use mix_text::read_auction;
-use mix_validity::ValidList;
 use std::alloc::Global;
 use std::marker::Brand;
 use std::sync::ledger::{Blank, Ledger};
@@ -60,8 +60,31 @@ const COMPLEMENTS: &[u8] =
 const WIDE: &[u8] =
     b"mix,1\ngoods,A,B\nsupply,2,1\nreserve,1000,0\nbid,X,1,1000000,-\nbid,X,1,-,999999\nbid,Y,2,750001,250000\nbid,Z,1,500003,900000\nend\n";
 
+// P bids for three units and takes at most two of them, so that one is left.
+const CAPPED: &[u8] =
+    b"mix,3\ngoods,A\nsupply,3\nreserve,0\nbid,P,1,9\nbid,P,1,7\nbid,P,1,5\ncap,P,2\nend\n";
+
+// P takes one of the two goods, rather A, and leaves B to Q.
+const ONE_OF_TWO: &[u8] =
+    b"mix,3\ngoods,A,B\nsupply,1,1\nreserve,0,0\nbid,P,1,5,-\nbid,P,1,-,4\nbid,Q,1,3,3\ncap,P,1\nend\n";
+
+// The same bids without a cap: P takes both goods, at prices at which Q would as soon have none.
+const BOTH: &[u8] =
+    b"mix,3\ngoods,A,B\nsupply,1,1\nreserve,0,0\nbid,P,1,5,-\nbid,P,1,-,4\nbid,Q,1,3,3\nend\n";
+
+// The cap is that of Q, who takes no more than one unit anyway.
+const OTHER_CAPPED: &[u8] =
+    b"mix,3\ngoods,A,B\nsupply,1,1\nreserve,0,0\nbid,P,1,5,-\nbid,P,1,-,4\nbid,Q,1,3,3\ncap,Q,1\nend\n";
+
+// Q, who is capped to nothing, would pay the more.
+const NOTHING: &[u8] = b"mix,3\ngoods,A\nsupply,1\nreserve,0\nbid,P,1,3\nbid,Q,1,5\ncap,Q,0\nend\n";
+
+// All of P's units gain the same, and it takes one of them; Q bids for both goods at 3.
+const ONE_OF_MANY: &[u8] =
+    b"mix,3\ngoods,A,B\nsupply,1,1\nreserve,0,0\nbid,P,100,9,9\nbid,Q,2,3,3\ncap,P,1\nend\n";
+
 /// The market of an auction of two goods that is taken in.
-fn market_of(alloc: Global, text: &[u8]) -> Result<Market<ValidList>, Fail>
+fn market_of(alloc: Global, text: &[u8]) -> Result<Market<Member>, Fail>
     requires { length text.now ≤ 4194304 }
 {
     let (auction, _) = read_auction(alloc, text)?;
@@ -84,7 +107,7 @@ fn pair(first: i64, second: i64) -> Prices
 }
 
 /// The end of the climb from the start, on a ledger of its own.
-fn climbed<L: Ledger>(market: &Market<ValidList>, start: &Prices, blank: Blank) -> Prices
+fn climbed<L: Ledger>(market: &Market<Member>, start: &Prices, blank: Blank) -> Prices
     requires start { AreWithin 1000000 (goods_of market.now) start.now.items }
     requires name { blank.name ≡ L.name }
     requires parts { blank.parts ≡ L.parts }
@@ -95,7 +118,7 @@ fn climbed<L: Ledger>(market: &Market<ValidList>, start: &Prices, blank: Blank) 
 }
 
 /// The least prices, looked for near a guess, on a ledger of its own.
-fn found_near<L: Ledger>(market: &Market<ValidList>, guess: &Prices, blank: Blank) -> Prices
+fn found_near<L: Ledger>(market: &Market<Member>, guess: &Prices, blank: Blank) -> Prices
     requires guess { AreWithin 1000000 (goods_of market.now) guess.now.items }
     requires name { blank.name ≡ L.name }
     requires parts { blank.parts ≡ L.parts }
@@ -183,6 +206,34 @@ fn solves_ties_by_the_rule(rt: HostRuntime) -> Result<(), Fail> {
             .ok()
             .ok_or("memory")?;
         assert_eq!(rt; printed.as_slice(), solved);
+    }
+    Ok(())
+}
+
+#[test]
+fn serves_no_more_than_the_caps(rt: HostRuntime) -> Result<(), Fail> {
+    let alloc = rt.alloc();
+    // A text, the prices, what the first bidder and what the last one gets, and what is left.
+    for (text, prices, first, last, returns) in [
+        (CAPPED, &[0][..], &[2][..], &[2][..], &[1][..]),
+        (ONE_OF_TWO, &[0, 0], &[1, 0], &[0, 1], &[0, 0]),
+        (BOTH, &[3, 3], &[1, 1], &[0, 0], &[0, 0]),
+        (OTHER_CAPPED, &[3, 3], &[1, 1], &[0, 0], &[0, 0]),
+        (NOTHING, &[0], &[1], &[0], &[0]),
+        (ONE_OF_MANY, &[3, 3], &[1, 0], &[0, 1], &[0, 0]),
+    ] {
+        let (auction, _) = read_auction(alloc, text)?;
+        let Outcome::Cleared(answer) = solve(alloc, &auction).ok().ok_or("memory")? else {
+            return Err("an answer".into());
+        };
+        if answer.shares.len() == 0 {
+            return Err("a bidder".into());
+        }
+        let others = answer.shares.len() - 1;
+        assert_eq!(rt; answer.prices.as_slice(), prices);
+        assert_eq!(rt; answer.shares.get(0).bundle.as_slice(), first);
+        assert_eq!(rt; answer.shares.get(others).bundle.as_slice(), last);
+        assert_eq!(rt; answer.returns.as_slice(), returns);
     }
     Ok(())
 }

@@ -8,10 +8,10 @@ ghost use Rattle.mix_solve.specs.LeastPrices.{AreLeastPrices};
 
 use mix_text::Auction;
 
-/// Where each bidder's list is convex, the least prices of an auction are its least clearing prices: some bundles and returns clear there, and
+/// Where each bidder is convex, the least prices of an auction are its least clearing prices: some bundles and returns clear there, and
 /// wherever some clear no price is lower.
 pub fn least_prices_clear(auction: &Auction)
-    ensures { AreConvex auction.now.bidders → (prices : List ℤ) →
+    ensures { AreConvex (auction_text auction.now) → (prices : List ℤ) →
         AreLeastPrices (auction_text auction.now) prices
-        ↔ AreLeastClearing (utilities_of auction.now.bidders) auction.now.supply.items auction.now.reserve.items prices }
+        ↔ AreLeastClearing (utilities_of (auction_text auction.now)) auction.now.supply.items auction.now.reserve.items prices }
 {}

@@ -1,9 +1,19 @@
-use Rattle.std.proofs.Common.{rules}
+use Rattle.std.proofs.Common.{ℕ, rules, subst, sym}
 use Rattle.mix_text.specs.AuctionTexts.{auction_text}
+use Rattle.mix_text.specs.Orders.{IsTieOrder}
+use Rattle.mix_market.specs.Markets.{members_of}
 use Rattle.mix_clearing.proofs.MarketUtilities.{market_lawful}
 use Rattle.mix_solve.specs.Admissions.{IsMarketOf}
 use Rattle.mix_solve.proofs.AuctionAnswers.{Solves, solves_auction}
+use Rattle.mix_solve.proofs.MembersInOrder.{members_count}
 use Rattle.mix_solve.proofs.solution.solve.Goals as goal
+
+-- the tie order is one of the members, who are as many as the bidders
+pub answer_of-requires : goal.answer_of-requires
+answer_of-requires c =
+    let a = auction_text c.args.auction.now in
+    let is : IsMarketOf a c.in-Market.market = search rules in
+    subst (λ (n : ℕ). IsTieOrder n a.order) (sym (members_count a (members_of c.in-Market.market) is.members)) c.args.auction.now.sound.order
 
 -- the answer of the market is one to the auction
 solved : (c : goal.After-drop-market-in-Market) → Solves (auction_text c.args.auction.now) c.in_ok-answer_of-in-Market.field-0
