@@ -3,17 +3,13 @@ use Rattle.std.proofs.Common.{◌≡◌, ℕ, suc, ◌<◌, ℤ, pos, ◌≤ℤ�
 use Rattle.std.proofs.lemmas.Int.{ints}
 use Rattle.std.proofs.lemmas.List.{get_or-map, length-map}
 use Rattle.std.proofs.lemmas.List.Elements.{All-get_or}
-use Rattle.mix_num.specs.Vectors.{Vector}
 use Rattle.mix_num.specs.Sellers.{AreAmounts}
 use Rattle.mix_num.specs.Shares.{sum_at}
 use Rattle.mix_num.specs.Orders.{IsOrder}
 use Rattle.mix_law.specs.Members.{KeepsLaws}
 use Rattle.mix_clearing.specs.Clearings.{bidder_utility}
 use Rattle.mix_clearing.specs.Utilities.{KeepLaws}
-use Rattle.mix_bids.specs.Bids.{Book, utility}
-use Rattle.mix_validity.proofs.ListLaws.{list_keeps_laws}
-use Rattle.mix_text.specs.Auctions.{AuctionText, IsAuction, IsBook}
-use Rattle.mix_text.specs.Bidders.{list_at}
+use Rattle.mix_text.specs.Auctions.{AuctionText, IsAuction}
 use Rattle.mix_text.proofs.TieOrders.{is_order}
 use Rattle.mix_answer.specs.Refusals.{AreConvex}
 use Rattle.mix_answer.specs.Shapes.{HasAnswerShape, IsShare}
@@ -21,32 +17,23 @@ use Rattle.mix_answer.specs.Truths.{bundles_of}
 use Rattle.mix_answer.specs.Utilities.{utilities_of}
 use Rattle.mix_answer.specs.declared.outcome.Answer.{Answer}
 use Rattle.mix_answer.specs.declared.share.Share.{Share}
+use Rattle.mix_answer.proofs.Entrants.{length-utilities, utilities_keep_laws}
 use Rattle.mix_check.specs.Reasons.{bundle_of, payment_of}
 
 -- ---- orders
-pub order-ordered : (a : AuctionText) → IsAuction a → IsOrder (length (utilities_of a.bidders)) a.order
-order-ordered a sound = subst (λ (m : ℕ). IsOrder m a.order) (sym (length-map a.bidders (λ (bidder : List ℕ × Book). utility bidder.1.bids))) (is_order (length a.bidders) a.order sound.order)
+pub order-ordered : (a : AuctionText) → IsAuction a → IsOrder (length (utilities_of a)) a.order
+order-ordered a sound = subst (λ (m : ℕ). IsOrder m a.order) (sym (length-utilities a)) (is_order (length a.bidders) a.order sound.order)
 
 -- ---- bidders
-pub book_at : (a : AuctionText) → IsAuction a → (k : ℕ) → k < length a.bidders → IsBook (length a.goods) (list_at a.bidders k)
-book_at a sound k l = All-get_or (λ (bidder : List ℕ × Book). IsBook (length a.goods) bidder.1) a.bidders k ([], record { goods = 0; bids = [] }) l sound.books
 
-pub length-utilities : (a : AuctionText) → length (utilities_of a.bidders) ≡ length a.bidders
-length-utilities a = length-map a.bidders (λ (bidder : List ℕ × Book). utility bidder.1.bids)
+-- utilities of convex bidders keep the laws of members
+pub laws-at : (a : AuctionText) → IsAuction a → AreConvex a → (k : ℕ) → k < length a.bidders → KeepsLaws (length a.goods) (bidder_utility (utilities_of a) k)
+laws-at a sound convex k l = (utilities_keep_laws a sound convex k l).laws
 
-pub utility-at : (a : AuctionText) (k : ℕ) → k < length a.bidders → bidder_utility (utilities_of a.bidders) k ≡ utility (list_at a.bidders k).bids
-utility-at a k l = get_or-map (λ (bidder : List ℕ × Book). utility bidder.1.bids) a.bidders k ([], record { goods = 0; bids = [] }) (λ x. pos 0) l
-
--- utilities of convex lists keep the laws of members
-pub laws-at : (a : AuctionText) → IsAuction a → AreConvex a.bidders → (k : ℕ) → k < length a.bidders → KeepsLaws (length a.goods) (bidder_utility (utilities_of a.bidders) k)
-laws-at a sound convex k l =
-    let is = book_at a sound k l in
-    subst (λ (f : Vector → ℤ). KeepsLaws (length a.goods) f) (sym (utility-at a k l)) (list_keeps_laws (length a.goods) (list_at a.bidders k).bids is.bids is.few (convex k l)).laws
-
-pub laws : (a : AuctionText) → IsAuction a → AreConvex a.bidders → KeepLaws (length a.supply) (utilities_of a.bidders)
+pub laws : (a : AuctionText) → IsAuction a → AreConvex a → KeepLaws (length a.supply) (utilities_of a)
 laws a sound convex k l =
     let few = length-utilities a in
-    subst (λ (n : ℕ). KeepsLaws n (bidder_utility (utilities_of a.bidders) k)) (sym sound.supply.0) (laws-at a sound convex k (omega (arith, l, few)))
+    subst (λ (n : ℕ). KeepsLaws n (bidder_utility (utilities_of a) k)) (sym sound.supply.0) (laws-at a sound convex k (omega (arith, l, few)))
 
 -- supplies are amounts
 pub stocked : (a : AuctionText) → IsAuction a → (i : ℕ) → i < length a.supply → pos 0 ≤ℤ get_or a.supply i (pos 0)

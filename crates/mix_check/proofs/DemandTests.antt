@@ -9,25 +9,26 @@ use Rattle.mix_law.specs.Demands.{IsDemanded, IsTableOf, table_of}
 use Rattle.mix_law.proofs.Demanded.{demanded-where_fits, fits-where_demanded}
 use Rattle.mix_clearing.specs.Clearings.{bidder_utility}
 use Rattle.mix_clearing.proofs.TableLists.{is-table_of}
-use Rattle.mix_bids.specs.Bids.{Book, utility}
+use Rattle.mix_cap.specs.MemberLaws.{function_of, size_of}
+use Rattle.mix_cap.specs.declared.member.Member.{Member}
 use Rattle.mix_text.specs.Auctions.{AuctionText, IsAuction}
-use Rattle.mix_text.specs.Bidders.{list_at}
 use Rattle.mix_answer.specs.Refusals.{AreConvex}
 use Rattle.mix_answer.specs.Shapes.{HasAnswerShape}
 use Rattle.mix_answer.specs.Utilities.{utilities_of}
 use Rattle.mix_answer.specs.declared.outcome.Answer.{Answer}
 use Rattle.mix_answer.specs.declared.share.Share.{Share}
 use Rattle.mix_check.specs.Reasons.{IsOverDemand, bundle_of}
-use Rattle.mix_check.specs.Tests.{AreTablesOfFirst}
-use Rattle.mix_check.proofs.AuctionFacts.{book_at, bundle-amounts, bundle-read, laws-at, utility-at}
+use Rattle.mix_answer.proofs.Entrants.{utility-there}
+use Rattle.mix_check.specs.Tests.{AreTablesOfFirst, StandsFor}
+use Rattle.mix_check.proofs.AuctionFacts.{bundle-amounts, bundle-read, laws-at}
 
-module _ (a : AuctionText) (answer : Answer) (sound : IsAuction a) (shape : HasAnswerShape a answer) (convex : AreConvex a.bidders) (k : ℕ) (l : k < length a.bidders)
+module _ (a : AuctionText) (answer : Answer) (sound : IsAuction a) (shape : HasAnswerShape a answer) (convex : AreConvex a) (k : ℕ) (l : k < length a.bidders)
     (tables : List (List ℤ)) (are : AreTablesOfFirst a answer.prices.items (length a.bidders) tables) (table : List ℤ) (read : table ≡ get_or tables k table) (share : Share) (got : share ≡ get_or answer.shares k share) where
   abbrev n : ℕ
   n = length a.goods
 
   abbrev f : Vector → ℤ
-  f = bidder_utility (utilities_of a.bidders) k
+  f = bidder_utility (utilities_of a) k
 
   abbrev bundle : List ℤ
   bundle = share.bundle.items
@@ -67,27 +68,24 @@ module _ (a : AuctionText) (answer : Answer) (sound : IsAuction a) (shape : HasA
       }
 
 -- the table of one bidder more
-pub one_more_table : (a : AuctionText) (prices : List ℤ) (k : ℕ) (tables now : List (List ℤ)) (table : List ℤ) (book : Book) → IsAuction a → k < length a.bidders → book ≡ list_at a.bidders k
-    → IsTableOf book.goods (utility book.bids) prices table → IsProper book.goods table → now ≡ tables ++ table ∷ [] → AreTablesOfFirst a prices k tables → AreTablesOfFirst a prices (k + 1) now
-one_more_table a prices k tables now table book sound l same is proper added first = record {
+pub one_more_table : (a : AuctionText) (prices : List ℤ) (k : ℕ) (tables now : List (List ℤ)) (table : List ℤ) (member : Member) → k < length a.bidders → StandsFor a k member
+    → IsTableOf (size_of member) (function_of member) prices table → IsProper (size_of member) table → now ≡ tables ++ table ∷ [] → AreTablesOfFirst a prices k tables → AreTablesOfFirst a prices (k + 1) now
+one_more_table a prices k tables now table member l stands is proper added first = record {
   count = ap (λ (xs : List (List ℤ)). length xs) added ∙ length-append tables (table ∷ []) ∙ (let c = first.count in let e : length tables + 1 ≡ k + 1 = omega (arith, c) in e);
   are = λ j h. ⊎_elim
-      (λ (e : j ≡ k). subst (λ (i : ℕ). IsTableOf (length a.goods) (bidder_utility (utilities_of a.bidders) i) prices (get_or now i [])) (sym e) (subst (λ (t : List ℤ). IsTableOf (length a.goods) (bidder_utility (utilities_of a.bidders) k) prices t) (sym here) here-is))
-      (λ (q : j < k). subst (λ (t : List ℤ). IsTableOf (length a.goods) (bidder_utility (utilities_of a.bidders) j) prices t) (sym (before j q)) (first.are j q))
+      (λ (e : j ≡ k). subst (λ (i : ℕ). IsTableOf (length a.goods) (bidder_utility (utilities_of a) i) prices (get_or now i [])) (sym e) (subst (λ (t : List ℤ). IsTableOf (length a.goods) (bidder_utility (utilities_of a) k) prices t) (sym here) here-is))
+      (λ (q : j < k). subst (λ (t : List ℤ). IsTableOf (length a.goods) (bidder_utility (utilities_of a) j) prices t) (sym (before j q)) (first.are j q))
       (eq-or-lt_of_le (let m : j ≤ k = omega (arith, h) in m));
   proper = λ j h. ⊎_elim
-      (λ (e : j ≡ k). subst (λ (i : ℕ). IsProper (length a.goods) (get_or now i [])) (sym e) (subst (IsProper (length a.goods)) (sym here) (subst (λ (n : ℕ). IsProper n table) goods proper)))
+      (λ (e : j ≡ k). subst (λ (i : ℕ). IsProper (length a.goods) (get_or now i [])) (sym e) (subst (IsProper (length a.goods)) (sym here) (subst (λ (n : ℕ). IsProper n table) stands.goods proper)))
       (λ (q : j < k). subst (IsProper (length a.goods)) (sym (before j q)) (first.proper j q))
       (eq-or-lt_of_le (let m : j ≤ k = omega (arith, h) in m));
 }
   where
-    goods : book.goods ≡ length a.goods
-    goods = ap (λ (b : Book). b.goods) same ∙ (book_at a sound k l).goods
-
-    here-is : IsTableOf (length a.goods) (bidder_utility (utilities_of a.bidders) k) prices table
+    here-is : IsTableOf (length a.goods) (bidder_utility (utilities_of a) k) prices table
     here-is =
-        subst (λ (f : Vector → ℤ). IsTableOf (length a.goods) f prices table) (ap (λ (b : Book). utility b.bids) same ∙ sym (utility-at a k l))
-        (subst (λ (n : ℕ). IsTableOf n (utility book.bids) prices table) goods is)
+        subst (λ (f : Vector → ℤ). IsTableOf (length a.goods) f prices table) (stands.utility ∙ sym (utility-there a k l))
+        (subst (λ (n : ℕ). IsTableOf n (function_of member) prices table) stands.goods is)
 
     here : get_or now k [] ≡ table
     here =

@@ -30,15 +30,15 @@ module _ (a : AuctionText) (answer : Answer) where
   sum_first i sum none l is other before = record { holds = (l, is, other); first = grind (arith, ints) }
 
   abbrev Demands : ℕ → Type 0
-  Demands k = IsDemanded (length a.goods) (bidder_utility (utilities_of a.bidders) k) answer.prices.items (bundle_of answer k)
+  Demands k = IsDemanded (length a.goods) (bidder_utility (utilities_of a) k) answer.prices.items (bundle_of answer k)
 
   pub demand_first : (k set : ℕ) → NoneBefore a outcome (6 ∷ []) → k < length a.bidders
-      → IsOverDemand (length a.goods) (bidder_utility (utilities_of a.bidders) k) answer.prices.items (bundle_of answer k) set
+      → IsOverDemand (length a.goods) (bidder_utility (utilities_of a) k) answer.prices.items (bundle_of answer k) set
       → ((j : ℕ) → j < k → Demands j) → IsFirstReason a outcome (Demand k set)
   demand_first k set none l over before = record { holds = (l, over); first = grind (arith, ints) }
 
   abbrev Falls : ℕ → Type 0
-  Falls set = FallsFreely (length a.goods) (lyapunov (utilities_of a.bidders) a.supply) (with_null a.reserve) (with_null answer.prices.items) set
+  Falls set = FallsFreely (length a.goods) (lyapunov (utilities_of a) a.supply) (with_null a.reserve) (with_null answer.prices.items) set
 
   pub fall_first : (set : ℕ) → NoneBefore a outcome (7 ∷ []) → Falls set → ((s : ℕ) → s < set → ¬ Falls s) → IsFirstReason a outcome (Lower set)
   fall_first set none falls before = record { holds = falls; first = grind (arith, ints) }

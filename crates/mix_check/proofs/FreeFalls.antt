@@ -15,7 +15,7 @@ use Rattle.mix_answer.specs.Utilities.{utilities_of}
 use Rattle.mix_check.specs.declared.tables.Tables.{Tables}
 use Rattle.mix_check.specs.Reasons.{FallsFreely}
 use Rattle.mix_check.specs.Tests.{AreTablesAt}
-use Rattle.mix_check.proofs.AuctionFacts.{length-utilities}
+use Rattle.mix_answer.proofs.Entrants.{length-utilities}
 use Rattle.mix_check.proofs.TableSums.{fall-is}
 
 -- sets without the null choice have even numbers
@@ -46,19 +46,19 @@ module _ (a : AuctionText) (prices : List ℤ) (tables : Tables) (are : AreTable
 
   -- the prices can fall freely where the sum is no more than the supply of the set
   pub falls_freely : CanFall (length a.goods) (with_null a.reserve) (with_null prices) set → number_of tables.sum set ≤ℤ sum_in (pos 0 ∷ a.supply) set
-      → FallsFreely (length a.goods) (lyapunov (utilities_of a.bidders) a.supply) (with_null a.reserve) (with_null prices) set
+      → FallsFreely (length a.goods) (lyapunov (utilities_of a) a.supply) (with_null a.reserve) (with_null prices) set
   falls_freely can low =
       let few = length-utilities a in
-      let fall = fall-is (length a.goods) (utilities_of a.bidders) tables.bidders.items a.supply prices set below (are.bidders.count ∙ sym few) (λ k h. are.bidders.are k (omega (arith, h, few))) in
+      let fall = fall-is (length a.goods) (utilities_of a) tables.bidders.items a.supply prices set below (are.bidders.count ∙ sym few) (λ k h. are.bidders.are k (omega (arith, h, few))) in
       let sum = are.sums.sums set below in
       record { can_fall = can; no_rise = omega (arith, ints, fall, sum, low) }
 
   -- and not where it is more
   pub rises : sum_in (pos 0 ∷ a.supply) set <ℤ number_of tables.sum set
-      → ¬ FallsFreely (length a.goods) (lyapunov (utilities_of a.bidders) a.supply) (with_null a.reserve) (with_null prices) set
+      → ¬ FallsFreely (length a.goods) (lyapunov (utilities_of a) a.supply) (with_null a.reserve) (with_null prices) set
   rises high wrong =
       let few = length-utilities a in
-      let fall = fall-is (length a.goods) (utilities_of a.bidders) tables.bidders.items a.supply prices set below (are.bidders.count ∙ sym few) (λ k h. are.bidders.are k (omega (arith, h, few))) in
+      let fall = fall-is (length a.goods) (utilities_of a) tables.bidders.items a.supply prices set below (are.bidders.count ∙ sym few) (λ k h. are.bidders.are k (omega (arith, h, few))) in
       let sum = are.sums.sums set below in
       let low = wrong.no_rise in
       omega (arith, ints, fall, sum, low, high)

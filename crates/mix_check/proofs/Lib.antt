@@ -1,5 +1,6 @@
 mod FirstReasons
 pub mod AuctionFacts
+mod EitherKind
 pub mod Truths
 mod WordSums
 mod TableSums

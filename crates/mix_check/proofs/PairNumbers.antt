@@ -32,7 +32,7 @@ pair-same n m j pair own e f right = subst (λ (p : Tight). IsPair n j p.upper p
 -- a bidder and its turn
 module _ (a : AuctionText) (answer : Answer) (sound : IsAuction a) (shape : HasAnswerShape a answer) (k bidder j : ℕ) (l : k < length a.bidders) (served : bidder ≡ place_at a.order k) where
   abbrev tables : List (List ℤ)
-  tables = tables_at (utilities_of a.bidders) a.supply a.reserve answer.prices.items a.order
+  tables = tables_at (utilities_of a) a.supply a.reserve answer.prices.items a.order
 
   abbrev bundles : List (List ℤ)
   bundles = in_order a.order (bundles_of answer)

@@ -27,7 +27,8 @@ use Rattle.mix_check.specs.Tests.{AreTablesAt, AreTablesOfFirst, HaveSums, IsTur
 use Rattle.mix_check.proofs.TableSums.{number-range, proper-read, rows-sum}
 use Rattle.mix_check.proofs.WordSums.{lies-wider}
 use Rattle.mix_check.specs.Reasons.{bundle_of}
-use Rattle.mix_check.proofs.AuctionFacts.{bundle-amounts, bundle-read, length-utilities}
+use Rattle.mix_answer.proofs.Entrants.{length-utilities}
+use Rattle.mix_check.proofs.AuctionFacts.{bundle-amounts, bundle-read}
 
 -- ---- plain lists
 -- before the first turn nothing is given
@@ -92,27 +93,27 @@ take-range n k table spare given now proper lies is near set l =
     (omega (arith, ints, own, old, e, m), omega (arith, ints, own, old, e, m))
 
 -- ---- the tables of an auction
-mapped : (a : AuctionText) (prices : List ℤ) → length (map (λ f. table_of (length a.supply) f prices) (utilities_of a.bidders)) ≡ length a.bidders
-mapped a prices = length-map (utilities_of a.bidders) (λ f. table_of (length a.supply) f prices) ∙ length-utilities a
+mapped : (a : AuctionText) (prices : List ℤ) → length (map (λ f. table_of (length a.supply) f prices) (utilities_of a)) ≡ length a.bidders
+mapped a prices = length-map (utilities_of a) (λ f. table_of (length a.supply) f prices) ∙ length-utilities a
 
 -- the bidders' tables that are kept, as one list
 bidders-are : (a : AuctionText) (prices : List ℤ) (tables : List (List ℤ)) → IsAuction a → AreTablesOfFirst a prices (length a.bidders) tables
-    → tables ≡ map (λ f. table_of (length a.supply) f prices) (utilities_of a.bidders)
-bidders-are a prices tables sound are = ext_get_or [] tables (map (λ f. table_of (length a.supply) f prices) (utilities_of a.bidders)) (are.count ∙ sym (mapped a prices)) each
+    → tables ≡ map (λ f. table_of (length a.supply) f prices) (utilities_of a)
+bidders-are a prices tables sound are = ext_get_or [] tables (map (λ f. table_of (length a.supply) f prices) (utilities_of a)) (are.count ∙ sym (mapped a prices)) each
   where
-    each : (k : ℕ) → k < length tables → get_or tables k [] ≡ get_or (map (λ f. table_of (length a.supply) f prices) (utilities_of a.bidders)) k []
+    each : (k : ℕ) → k < length tables → get_or tables k [] ≡ get_or (map (λ f. table_of (length a.supply) f prices) (utilities_of a)) k []
     each k l =
         let size = are.count in
         let few = length-utilities a in
         let h : k < length a.bidders = omega (arith, l, size) in
-        let is : IsTableOf (length a.supply) (bidder_utility (utilities_of a.bidders) k) prices (get_or tables k []) =
-        subst (λ (n : ℕ). IsTableOf n (bidder_utility (utilities_of a.bidders) k) prices (get_or tables k [])) (sym sound.supply.0) (are.are k h) in
-        is-table_of (length a.supply) (bidder_utility (utilities_of a.bidders) k) prices (get_or tables k []) is
-        ∙ sym (get_or-map (λ f. table_of (length a.supply) f prices) (utilities_of a.bidders) k (λ x. pos 0) [] (omega (arith, h, few)))
+        let is : IsTableOf (length a.supply) (bidder_utility (utilities_of a) k) prices (get_or tables k []) =
+        subst (λ (n : ℕ). IsTableOf n (bidder_utility (utilities_of a) k) prices (get_or tables k [])) (sym sound.supply.0) (are.are k h) in
+        is-table_of (length a.supply) (bidder_utility (utilities_of a) k) prices (get_or tables k []) is
+        ∙ sym (get_or-map (λ f. table_of (length a.supply) f prices) (utilities_of a) k (λ x. pos 0) [] (omega (arith, h, few)))
 
 -- the tables that are kept are, in tie order, those of all members
 pub rows-are : (a : AuctionText) (prices : List ℤ) (tables : Tables) → IsAuction a → AreTablesAt a prices tables
-    → tables_at (utilities_of a.bidders) a.supply a.reserve prices a.order ≡ rows_of a.order tables
+    → tables_at (utilities_of a) a.supply a.reserve prices a.order ≡ rows_of a.order tables
 rows-are a prices tables sound are =
     ap (λ (lists : List (List ℤ)). in_order a.order lists ++ table_of (length a.supply) (seller_gain a.supply a.reserve) prices ∷ [])
     (sym (bidders-are a prices tables.bidders.items sound are.bidders))

@@ -17,9 +17,7 @@ use Rattle.mix_market.specs.Lowerings.{RisesWhereFallen}
 use Rattle.mix_clearing.proofs.CheckedOutcomes.{checked_outcome}
 use Rattle.mix_clearing.proofs.FallingPrices.{least_clearing-by_lowering}
 use Rattle.mix_clearing.proofs.LyapunovLaws.{keep_local, lyapunov_keeps_local}
-use Rattle.mix_bids.specs.Bids.{AreBids, Book, facet_weight}
-use Rattle.mix_bids.proofs.Lengths.{over_of}
-use Rattle.mix_validity.proofs.ConvexLists.{convex_exactly}
+use Rattle.mix_bids.specs.Bids.{Book, facet_weight}
 use Rattle.mix_text.specs.Auctions.{AuctionText, IsAuction}
 use Rattle.mix_text.specs.Bidders.{list_at}
 use Rattle.mix_text.proofs.TieOrders.{is_order}
@@ -30,14 +28,17 @@ use Rattle.mix_answer.specs.Utilities.{utilities_of}
 use Rattle.mix_answer.specs.declared.outcome.Answer.{Answer}
 use Rattle.mix_answer.specs.declared.refusal.Refusal.{Refusal}
 use Rattle.mix_answer.specs.declared.share.Share.{Share}
+use Rattle.mix_answer.proofs.Entrants.{length-utilities}
+use Rattle.mix_answer.proofs.TrueRefusals.{list_at_ok}
 use Rattle.mix_check.specs.declared.reason.Reason.{Reason}
 use Rattle.mix_check.specs.declared.reason.Reason.TheVariants.{Demand, Earlier, Facet, Floor, Invalid, Lower, Pair, Pay, Return, Sum, Tight}
 use Rattle.mix_check.specs.Reasons.{HoldsOfAnswer, HoldsOfRefusal, IsNotTight, bundle_of, weight_of}
 use Rattle.mix_check.specs.Tests.{AddUp, AreAboveReserves, AreDemanded, ArePaid, AreReturnedAtReserves, Rises}
-use Rattle.mix_check.proofs.AuctionFacts.{book_at, bundle-amounts, bundle-at, given_some, laws, length-bundles, length-utilities, order-ordered, payment-at, stocked}
+use Rattle.mix_check.proofs.EitherKind.{none_negative}
+use Rattle.mix_check.proofs.AuctionFacts.{bundle-amounts, bundle-at, given_some, laws, length-bundles, order-ordered, payment-at, stocked}
 
 -- a reason against a refusal
-pub refusal_untrue : (a : AuctionText) (r : Refusal) (reason : Reason) → HoldsOfRefusal a r reason → ¬ IsTrueRefusal a.bidders r
+pub refusal_untrue : (a : AuctionText) (r : Refusal) (reason : Reason) → HoldsOfRefusal a r reason → ¬ IsTrueRefusal a r
 refusal_untrue a r (Facet weight) holds true = holds.1 (holds.0 ∙ sym true.facet.weight)
 refusal_untrue a r (Earlier k) holds true = holds.1 (true.first k holds.0)
 refusal_untrue a r other holds true = holds
@@ -53,22 +54,21 @@ weight-same a r fits book listed weight value lies e =
     omega (arith, ints, is, lies, same, low, high)
 
 -- a refusal whose weight is the facet weight there, of the first bidder that isn't convex
-pub true_refusal : (a : AuctionText) (r : Refusal) → IsAuction a → FitsAuction a r → weight_of a r ≡ r.weight → AreConvexBefore a.bidders r.bidder → IsTrueRefusal a.bidders r
+pub true_refusal : (a : AuctionText) (r : Refusal) → IsAuction a → FitsAuction a r → weight_of a r ≡ r.weight → AreConvexBefore a r.bidder → IsTrueRefusal a r
 true_refusal a r sound fits same before =
     let book : Book = list_at a.bidders r.bidder in
-    let is = book_at a sound r.bidder fits.bidder in
+    let is = list_at_ok a r.bidder sound fits.bidder in
     let goods = is.goods in
     let prices = subst (λ (n : ℕ). AreWithin 2000000 n r.prices.items) (sym goods) fits.prices in
     let choices = fits.choices in
     let within : r.second ≤ book.goods = omega (arith, goods, choices) in
     let low = fits.negative in
     let negative : r.weight <ℤ pos 0 = omega (arith, ints, low) in
-    let bids = subst (λ (n : ℕ). AreBids n book.bids) (sym goods) is.bids in
     record {
       bidder = fits.bidder;
       first = before;
       refused = λ convex.
-          let none = (convex_exactly book.goods book.bids (over_of book.goods book.bids bids)).0 convex r.first r.second fits.order within r.prices.items prices.0 in
+          let none = none_negative a r.bidder sound fits.bidder convex r.first r.second fits.order within r.prices.items prices.0 in
           omega (arith, ints, none, same, negative);
       facet = record { order = fits.order; within = within; prices = prices; weight = sym same; negative = negative };
     }
@@ -78,7 +78,7 @@ module _ (a : AuctionText) (answer : Answer) (sound : IsAuction a) (shape : HasA
   goods = sound.supply.0
 
   abbrev utilities : List (Vector → ℤ)
-  utilities = utilities_of a.bidders
+  utilities = utilities_of a
 
   -- where the lists are convex, prices that clear are the least exactly where no set can fall without a rise
   rises-where_true : IsTrueAnswer a answer → Rises a answer
@@ -151,7 +151,7 @@ module _ (a : AuctionText) (answer : Answer) (sound : IsAuction a) (shape : HasA
   }
 
   -- and is true
-  pub true_answer : AreConvex a.bidders → AreAboveReserves a answer → AddUp a answer → AreReturnedAtReserves a answer → AreDemanded a answer → Rises a answer → ArePaid a answer → HaveTights a answer
+  pub true_answer : AreConvex a → AreAboveReserves a answer → AddUp a answer → AreReturnedAtReserves a answer → AreDemanded a answer → Rises a answer → ArePaid a answer → HaveTights a answer
       → IsTrueAnswer a answer
   true_answer convex above sums at demanded rises paid tights = record {
     convex = convex;

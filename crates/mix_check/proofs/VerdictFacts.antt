@@ -1,6 +1,5 @@
 -- What a verdict tells of an outcome, and what follows where the outcome is true.
-use Rattle.std.proofs.Common.{◌≡◌, ◌↔◌, ℕ, ℤ, List, [], All, length, refl, sym, ◌∙◌, subst, Result, IfOk}
-use Rattle.std.proofs.lemmas.List.Elements.{All-from_get_or, All-weaker}
+use Rattle.std.proofs.Common.{◌≡◌, ◌↔◌, ℕ, ℤ, List, length, refl, sym, ◌∙◌, subst, Result, IfOk}
 use Rattle.std.proofs.lemmas.Result.{IfOk-weaker}
 use Rattle.mix_num.specs.declared.Memory.{Memory}
 use Rattle.mix_num.specs.Vectors.{Vector}
@@ -8,17 +7,13 @@ use Rattle.mix_clearing.specs.Clearings.{AreLeastClearing}
 use Rattle.mix_clearing.specs.Scales.{KeepScales}
 use Rattle.mix_clearing.proofs.Fractions.{least_of_fractions-where_least_clearing}
 use Rattle.mix_clearing.proofs.Worths.{worth_most-where_clears}
-use Rattle.mix_bids.specs.Bids.{Book}
-use Rattle.mix_bids.specs.Convexity.{IsConvexList}
-use Rattle.mix_bids.specs.declared.bid.Bid.{Bid}
-use Rattle.mix_bids.proofs.Lengths.{AreOver, over_of}
-use Rattle.mix_validity.proofs.ListsAtScales.{lists_keep_scales, utilities_once}
-use Rattle.mix_text.specs.Auctions.{AuctionText, IsAuction, IsBook}
+use Rattle.mix_text.specs.Auctions.{AuctionText, IsAuction}
 use Rattle.mix_answer.specs.Refusals.{AreConvex}
 use Rattle.mix_answer.specs.Truths.{IsTrueOutcome, bundles_of}
 use Rattle.mix_answer.specs.Utilities.{scaled_utilities_of, utilities_of}
 use Rattle.mix_answer.specs.declared.outcome.Outcome.{Outcome}
 use Rattle.mix_answer.specs.declared.outcome.Outcome.TheVariants.{Cleared, Refused}
+use Rattle.mix_answer.proofs.Entrants.{utilities_keep_scales, utilities_once}
 use Rattle.mix_check.specs.declared.reason.Verdict.{Verdict}
 use Rattle.mix_check.specs.declared.reason.Verdict.TheVariants.{No, Yes}
 use Rattle.mix_check.specs.Verdicts.{GivesFirstReason, IsLeastOfFractions, IsVerdict, IsWorthMost}
@@ -35,28 +30,18 @@ verdict_reason a outcome (No reason) is = is.1
 pub true_worth : (a : AuctionText) (outcome : Outcome) → IsAuction a → IsTrueOutcome a outcome → IsWorthMost a outcome
 true_worth a (Refused r) sound true = tt
 true_worth a (Cleared answer) sound true =
-    worth_most-where_clears (utilities_of a.bidders) a.supply a.reserve answer.prices.items (bundles_of answer) answer.returns.items (sound.reserve.0 ∙ sym sound.supply.0) true.solution.clear
+    worth_most-where_clears (utilities_of a) a.supply a.reserve answer.prices.items (bundles_of answer) answer.returns.items (sound.reserve.0 ∙ sym sound.supply.0) true.solution.clear
 
--- the bids of a bidder
-abbrev bids_of : List ℕ × Book → List Bid
-bids_of bidder = bidder.1.bids
-
--- the utilities of convex lists at all scales go together
-scales-kept : (a : AuctionText) → IsAuction a → AreConvex a.bidders → KeepScales (length a.supply) (scaled_utilities_of a.bidders)
-scales-kept a sound convex =
-    let over : All (λ (bidder : List ℕ × Book). AreOver (length a.goods) (bids_of bidder)) a.bidders =
-    All-weaker (λ (bidder : List ℕ × Book). IsBook (length a.goods) bidder.1) (λ (bidder : List ℕ × Book). AreOver (length a.goods) (bids_of bidder))
-    (λ bidder is. over_of (length a.goods) bidder.1.bids is.bids) a.bidders sound.books in
-    let each : All (λ (bidder : List ℕ × Book). IsConvexList (bids_of bidder)) a.bidders =
-    All-from_get_or (λ (bidder : List ℕ × Book). IsConvexList (bids_of bidder)) a.bidders ([], record { goods = 0; bids = [] }) convex in
-    subst (λ (n : ℕ). KeepScales n (scaled_utilities_of a.bidders)) (sym sound.supply.0) (lists_keep_scales (length a.goods) bids_of a.bidders over each)
+-- the utilities of convex bidders at all scales go together
+scales-kept : (a : AuctionText) → IsAuction a → AreConvex a → KeepScales (length a.supply) (scaled_utilities_of a)
+scales-kept a sound convex = subst (λ (n : ℕ). KeepScales n (scaled_utilities_of a)) (sym sound.supply.0) (utilities_keep_scales a sound convex)
 
 -- and no prices with fractions clear below a true answer's
 pub true_least : (a : AuctionText) (outcome : Outcome) → IsAuction a → IsTrueOutcome a outcome → IsLeastOfFractions a outcome
 true_least a (Refused r) sound true = tt
 true_least a (Cleared answer) sound true =
-    least_of_fractions-where_least_clearing (scaled_utilities_of a.bidders) a.supply (scales-kept a sound true.convex) a.reserve answer.prices.items
-    (subst (λ (fs : List (Vector → ℤ)). AreLeastClearing fs a.supply a.reserve answer.prices.items) (sym (utilities_once bids_of a.bidders)) true.solution.least)
+    least_of_fractions-where_least_clearing (scaled_utilities_of a) a.supply (scales-kept a sound true.convex) a.reserve answer.prices.items
+    (subst (λ (fs : List (Vector → ℤ)). AreLeastClearing fs a.supply a.reserve answer.prices.items) (sym (utilities_once a)) true.solution.least)
 
 -- ---- the result of a call that gives the verdict on an outcome
 module _ (a : AuctionText) (outcome same : Outcome) (result : Result Verdict Memory) (e : outcome ≡ same) (ok : IfOk result (IsVerdict a same)) where

@@ -12,11 +12,10 @@ use Rattle.mix_clearing.specs.Certificates.{tables_at}
 use Rattle.mix_clearing.specs.Clearings.{bidder_bundle, bidder_utility}
 use Rattle.mix_market.specs.Lowerings.{CanFall}
 use Rattle.mix_bids.specs.Bids.{facet_weight}
-use Rattle.mix_bids.specs.Convexity.{IsConvexList}
 use Rattle.mix_text.specs.Auctions.{AuctionText}
 use Rattle.mix_text.specs.Bidders.{list_at}
 use Rattle.mix_answer.specs.Truths.{bundles_of, pair_of}
-use Rattle.mix_answer.specs.Utilities.{utilities_of}
+use Rattle.mix_answer.specs.Utilities.{IsConvexEntrant, entrant_at, utilities_of}
 use Rattle.mix_answer.specs.declared.outcome.Answer.{Answer}
 use Rattle.mix_answer.specs.declared.outcome.Outcome.{Outcome}
 use Rattle.mix_answer.specs.declared.outcome.Outcome.TheVariants.{Cleared, Refused}
@@ -55,7 +54,7 @@ pub record FallsFreely (n : ℕ) (l : Vector → ℤ) (start p : Vector) (set : 
 -- the number of the pair of a bidder, at its turn in the order, and of a good
 abbrev pub number_at : AuctionText → Answer → ℕ → ℕ → ℤ
 number_at a answer turn j =
-    let tables = tables_at (utilities_of a.bidders) a.supply a.reserve answer.prices.items a.order in
+    let tables = tables_at (utilities_of a) a.supply a.reserve answer.prices.items a.order in
     let bundles = in_order a.order (bundles_of answer) in
     let pair = pair_of (length a.goods) answer (place_at a.order turn) j in
     pair_number j (get_or tables turn []) (floor_at (length a.goods) tables a.supply bundles turn) (get_or bundles turn []) pair.upper pair.lower
@@ -71,17 +70,17 @@ pub record IsNotTight (a : AuctionText) (answer : Answer) (k j : ℕ) (bound : �
 -- what a reason says of a refusal
 abbrev pub HoldsOfRefusal : AuctionText → Refusal → Reason → Type 0
 HoldsOfRefusal a r (Facet weight) = (weight ≡ weight_of a r) × (weight ≢ r.weight)
-HoldsOfRefusal a r (Earlier k) = (k < r.bidder) × ¬ IsConvexList (list_at a.bidders k).bids
+HoldsOfRefusal a r (Earlier k) = (k < r.bidder) × ¬ IsConvexEntrant (entrant_at a k)
 HoldsOfRefusal a r other = ⊥
 
 -- what a reason says of an answer
 abbrev pub HoldsOfAnswer : AuctionText → Answer → Reason → Type 0
-HoldsOfAnswer a answer (Invalid k) = (k < length a.bidders) × ¬ IsConvexList (list_at a.bidders k).bids
+HoldsOfAnswer a answer (Invalid k) = (k < length a.bidders) × ¬ IsConvexEntrant (entrant_at a k)
 HoldsOfAnswer a answer (Floor i) = (i < length a.goods) × (get_or answer.prices.items i (pos 0) <ℤ get_or a.reserve i (pos 0))
 HoldsOfAnswer a answer (Sum i sum) = (i < length a.goods) × (sum ≡ sum_of_good answer i) × (sum ≢ get_or a.supply i (pos 0))
 HoldsOfAnswer a answer (Return i) = (i < length a.goods) × (pos 0 <ℤ get_or answer.returns.items i (pos 0)) × (get_or answer.prices.items i (pos 0) ≢ get_or a.reserve i (pos 0))
-HoldsOfAnswer a answer (Demand k set) = (k < length a.bidders) × IsOverDemand (length a.goods) (bidder_utility (utilities_of a.bidders) k) answer.prices.items (bundle_of answer k) set
-HoldsOfAnswer a answer (Lower set) = FallsFreely (length a.goods) (lyapunov (utilities_of a.bidders) a.supply) (with_null a.reserve) (with_null answer.prices.items) set
+HoldsOfAnswer a answer (Demand k set) = (k < length a.bidders) × IsOverDemand (length a.goods) (bidder_utility (utilities_of a) k) answer.prices.items (bundle_of answer k) set
+HoldsOfAnswer a answer (Lower set) = FallsFreely (length a.goods) (lyapunov (utilities_of a) a.supply) (with_null a.reserve) (with_null answer.prices.items) set
 HoldsOfAnswer a answer (Pay k amount) = (k < length a.bidders) × (amount ≡ dot_of answer.prices.items (bundle_of answer k)) × (payment_of answer k ≢ amount)
 HoldsOfAnswer a answer (Pair k j) = (k < length a.bidders) × (j < length a.goods) × ¬ IsPair (length a.goods) j (pair_of (length a.goods) answer k j).upper (pair_of (length a.goods) answer k j).lower
 HoldsOfAnswer a answer (Tight k j bound) = (k < length a.bidders) × (j < length a.goods) × IsNotTight a answer k j bound

@@ -1,5 +1,5 @@
 -- What the checker's tests show of an answer that passes them, and what its tables are. For proofs; no public clause rests on it.
-use Rattle.std.specs.Prelude.{◌≡◌, ◌<◌, ◌^◌, ◌≤◌, ◌<ℤ◌, ◌≤ℤ◌, ◌-ℤ◌, ℕ, suc, ℤ, pos, List, [], ◌∷◌, ◌++◌, length, get_or, drop, Option, Some, None}
+use Rattle.std.specs.Prelude.{◌≡◌, ◌<◌, ◌^◌, ◌≤◌, ◌<ℤ◌, ◌≤ℤ◌, ◌-ℤ◌, ℕ, suc, ℤ, pos, Bool, true, false, List, [], ◌∷◌, ◌++◌, length, get_or, drop, Option, Some, None}
 use Rattle.mix_num.specs.Vectors.{with_null}
 use Rattle.mix_num.specs.Sellers.{seller_gain}
 use Rattle.mix_num.specs.Sums.{dot_of}
@@ -9,16 +9,16 @@ use Rattle.mix_num.specs.Orders.{in_order, place_at}
 use Rattle.mix_num.specs.Pairs.{IsPair, floor_at, left_at}
 use Rattle.mix_num.specs.Ranges.{Lies}
 use Rattle.mix_law.specs.Demands.{IsDemanded, IsTableOf}
+use Rattle.mix_cap.specs.MemberLaws.{function_of, size_of}
+use Rattle.mix_cap.specs.declared.member.Member.{Member}
 use Rattle.mix_market.specs.Lyapunov.{lyapunov}
 use Rattle.mix_clearing.specs.Certificates.{IsTightPair, tables_at}
 use Rattle.mix_clearing.specs.Clearings.{bidder_utility}
 use Rattle.mix_market.specs.Lowerings.{RisesWhereFallen}
-use Rattle.mix_bids.specs.Convexity.{IsConvexList}
 use Rattle.mix_text.specs.Auctions.{AuctionText}
-use Rattle.mix_text.specs.Bidders.{list_at}
 use Rattle.mix_answer.specs.Refusals.{AreConvex, AreConvexBefore}
 use Rattle.mix_answer.specs.Truths.{bundles_of, pair_of}
-use Rattle.mix_answer.specs.Utilities.{utilities_of}
+use Rattle.mix_answer.specs.Utilities.{IsConvexEntrant, entrant_at, entrant_utility, utilities_of}
 use Rattle.mix_answer.specs.declared.outcome.Answer.{Answer}
 use Rattle.mix_check.specs.declared.tables.Taken.{Taken}
 use Rattle.mix_check.specs.declared.tables.Taken.TheVariants.{Invalid, Tables as TablesOf}
@@ -28,11 +28,22 @@ use Rattle.mix_check.specs.declared.reason.Reason.{Reason}
 use Rattle.mix_check.specs.declared.reason.Reason.TheVariants.{Pair, Tight}
 use Rattle.mix_check.specs.Reasons.{HoldsOfAnswer, bundle_of, payment_of, sum_of_good}
 
--- of some bidders the first whose list isn't convex
+-- a member that stands for the bidder at a place, which is convex: it is over the goods of the auction, and its function is the bidder's utility
+pub record StandsFor (a : AuctionText) (k : ℕ) (member : Member) : Type 0 where
+  pub convex : IsConvexEntrant (entrant_at a k)
+  pub goods : size_of member ≡ length a.goods
+  pub utility : function_of member ≡ entrant_utility (entrant_at a k)
+
+-- whether the bidder at a place is convex
+abbrev pub TellsConvex : AuctionText → ℕ → Bool → Type 0
+TellsConvex a k true = IsConvexEntrant (entrant_at a k)
+TellsConvex a k false = ¬ IsConvexEntrant (entrant_at a k)
+
+-- of some bidders the first that isn't convex
 pub record IsFirstInvalid (a : AuctionText) (count k : ℕ) : Type 0 where
   pub within : k < count
-  pub before : AreConvexBefore a.bidders k
-  pub invalid : ¬ IsConvexList (list_at a.bidders k).bids
+  pub before : AreConvexBefore a k
+  pub invalid : ¬ IsConvexEntrant (entrant_at a k)
 
 -- no price is below its reserve
 abbrev pub AreAboveReserves : AuctionText → Answer → Type 0
@@ -48,11 +59,11 @@ AreReturnedAtReserves a answer = (i : ℕ) → i < length a.goods → pos 0 <ℤ
 
 -- each bidder demands its bundle
 abbrev pub AreDemanded : AuctionText → Answer → Type 0
-AreDemanded a answer = (k : ℕ) → k < length a.bidders → IsDemanded (length a.goods) (bidder_utility (utilities_of a.bidders) k) answer.prices.items (bundle_of answer k)
+AreDemanded a answer = (k : ℕ) → k < length a.bidders → IsDemanded (length a.goods) (bidder_utility (utilities_of a) k) answer.prices.items (bundle_of answer k)
 
 -- no set of prices can fall without a rise
 abbrev pub Rises : AuctionText → Answer → Type 0
-Rises a answer = RisesWhereFallen (length a.goods) (lyapunov (utilities_of a.bidders) a.supply) (with_null a.reserve) (with_null answer.prices.items)
+Rises a answer = RisesWhereFallen (length a.goods) (lyapunov (utilities_of a) a.supply) (with_null a.reserve) (with_null answer.prices.items)
 
 -- each bidder pays price times quantity
 abbrev pub ArePaid : AuctionText → Answer → Type 0
@@ -61,12 +72,12 @@ ArePaid a answer = (k : ℕ) → k < length a.bidders → payment_of answer k �
 -- the tables of the first k bidders at prices
 pub record AreTablesOfFirst (a : AuctionText) (prices : List ℤ) (k : ℕ) (tables : List (List ℤ)) : Type 0 where
   pub count : length tables ≡ k
-  pub are : (j : ℕ) → j < k → IsTableOf (length a.goods) (bidder_utility (utilities_of a.bidders) j) prices (get_or tables j [])
+  pub are : (j : ℕ) → j < k → IsTableOf (length a.goods) (bidder_utility (utilities_of a) j) prices (get_or tables j [])
   pub proper : (j : ℕ) → j < k → IsProper (length a.goods) (get_or tables j [])
 
 -- what comes of taking the tables of all bidders
 abbrev pub IsTaken : AuctionText → List ℤ → Taken → Type 0
-IsTaken a prices (TablesOf tables) = AreConvex a.bidders × AreTablesOfFirst a prices (length a.bidders) tables.items
+IsTaken a prices (TablesOf tables) = AreConvex a × AreTablesOfFirst a prices (length a.bidders) tables.items
 IsTaken a prices (Invalid k) = IsFirstInvalid a (length a.bidders) k
 
 -- all tables, the bidders' in an order and the seller's last
@@ -97,9 +108,9 @@ LieWithin n m numbers = (set : ℕ) → set < 2 ^ suc n → Lies m (number_of nu
 
 -- the table of the bidder at a turn, and what must be given to it at each set
 pub record IsTurn (a : AuctionText) (answer : Answer) (turn : ℕ) (table floor : List ℤ) : Type 0 where
-  pub own : table ≡ get_or (tables_at (utilities_of a.bidders) a.supply a.reserve answer.prices.items a.order) turn []
+  pub own : table ≡ get_or (tables_at (utilities_of a) a.supply a.reserve answer.prices.items a.order) turn []
   pub needed : (set : ℕ) → set < 2 ^ suc (length a.goods) → number_of floor set
-      ≡ floor_at (length a.goods) (tables_at (utilities_of a.bidders) a.supply a.reserve answer.prices.items a.order) a.supply (in_order a.order (bundles_of answer)) turn set
+      ≡ floor_at (length a.goods) (tables_at (utilities_of a) a.supply a.reserve answer.prices.items a.order) a.supply (in_order a.order (bundles_of answer)) turn set
   pub size : length table ≡ 2 ^ suc (length a.goods)
   pub room : length floor ≡ 512
   pub range : LieWithin (length a.goods) 4000000000000 floor
@@ -108,7 +119,7 @@ pub record IsTurn (a : AuctionText) (answer : Answer) (turn : ℕ) (table floor 
 abbrev pub HasTightPair : AuctionText → Answer → ℕ → ℕ → Type 0
 HasTightPair a answer turn j =
     let pair = pair_of (length a.goods) answer (place_at a.order turn) j in
-    IsTightPair (utilities_of a.bidders) a.supply a.reserve answer.prices.items a.order (bundles_of answer) turn j pair.upper pair.lower
+    IsTightPair (utilities_of a) a.supply a.reserve answer.prices.items a.order (bundles_of answer) turn j pair.upper pair.lower
 
 -- the reason is one against the two sets of a bidder and a good: they are no pair, or they are one and its number is another
 abbrev pub IsAgainst : AuctionText → Answer → ℕ → ℕ → Reason → Type 0

@@ -23,9 +23,9 @@ IsVerdict a outcome (No reason) = ¬ IsTrueOutcome a outcome × IsFirstReason a 
 -- no allocation of the supply is worth more than that of an answer
 abbrev pub IsWorthMost : AuctionText → Outcome → Type 0
 IsWorthMost a (Refused r) = Unit {0}
-IsWorthMost a (Cleared answer) = AreWorthMost (utilities_of a.bidders) a.supply a.reserve (bundles_of answer) answer.returns.items
+IsWorthMost a (Cleared answer) = AreWorthMost (utilities_of a) a.supply a.reserve (bundles_of answer) answer.returns.items
 
 -- no prices with fractions clear below those of an answer
 abbrev pub IsLeastOfFractions : AuctionText → Outcome → Type 0
 IsLeastOfFractions a (Refused r) = Unit {0}
-IsLeastOfFractions a (Cleared answer) = AreLeastOfFractions (scaled_utilities_of a.bidders) a.supply a.reserve answer.prices.items
+IsLeastOfFractions a (Cleared answer) = AreLeastOfFractions (scaled_utilities_of a) a.supply a.reserve answer.prices.items

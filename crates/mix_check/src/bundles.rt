@@ -18,7 +18,7 @@ use mix_text::Auction;
 pub fn demanded(auction: &Auction, answer: &Answer, tables: &Tables) -> Result<(), Reason>
     requires shape { HasAnswerShape (auction_text auction.now) answer.now }
     requires tables { AreTablesAt (auction_text auction.now) answer.now.prices.items tables.now }
-    requires convex { AreConvex auction.now.bidders }
+    requires convex { AreConvex (auction_text auction.now) }
     requires before { NoneBefore (auction_text auction.now) (Cleared answer.now) (6 ∷ []) }
     ensures passed { IfOk result (λ done. AreDemanded (auction_text auction.now) answer.now) }
     ensures next { IfOk result (λ done. NoneBefore (auction_text auction.now) (Cleared answer.now) (7 ∷ [])) }

@@ -12,7 +12,7 @@ ghost use Rattle.mix_check.specs.Verdicts.{GivesFirstReason, IsLeastOfFractions,
 use crate::amounts::{above_reserves, add_up, returned_at_reserves};
 use crate::bundles::{demanded, paid};
 use crate::falls::none_lower;
-use crate::lists::first_invalid;
+use crate::members::first_invalid;
 use crate::pairs::tight;
 use crate::reason::{Reason, Verdict};
 use crate::tables::{Tables, Taken, all_tables, bidder_tables};
@@ -70,10 +70,10 @@ fn check_answer(alloc: Global, auction: &Auction, answer: &Answer) -> Result<Ver
     }
 }
 
-/// The tests of an answer of bidders whose lists are convex, in their order.
+/// The tests of an answer of bidders that are convex, in their order.
 fn passes(auction: &Auction, answer: &Answer, tables: &Tables) -> Result<(), Reason>
     requires shape { HasAnswerShape (auction_text auction.now) answer.now }
-    requires convex { AreConvex auction.now.bidders }
+    requires convex { AreConvex (auction_text auction.now) }
     requires tables { AreTablesAt (auction_text auction.now) answer.now.prices.items tables.now }
     requires before { NoneBefore (auction_text auction.now) (Cleared answer.now) (3 ∷ []) }
     ensures passed { IfOk result (λ done. IsTrueAnswer (auction_text auction.now) answer.now) }

@@ -6,7 +6,7 @@ mod amounts;
 mod bundles;
 mod checking;
 mod falls;
-mod lists;
+mod members;
 mod pairs;
 mod reason;
 mod tables;

@@ -18,11 +18,11 @@ pub enum Reason {
     Facet {
         weight: i64,
     },
-    /// The list of a bidder before the refused one isn't convex.
+    /// A bidder before the refused one isn't convex.
     Earlier {
         bidder: usize,
     },
-    /// The list of a bidder isn't convex.
+    /// A bidder isn't convex.
     Invalid {
         bidder: usize,
     },

@@ -6,7 +6,7 @@ ghost use Rattle.mix_num.specs.Tables.{IsProper, number_of};
 ghost use Rattle.mix_text.specs.AuctionTexts.{auction_text};
 ghost use Rattle.mix_check.specs.Tests.{AreTablesAt, AreTablesOfFirst, IsTaken};
 
-use crate::lists::valid_list;
+use crate::members::member;
 use mix_demand::{Rho, rho_of, sum_into};
 use mix_num::{Memory, Prices};
 use mix_seller::Seller;
@@ -27,23 +27,23 @@ pub struct Tables {
 /// What comes of taking the bidders' tables.
 #[derive(Drop)]
 pub enum Taken {
-    /// Each bidder's list is convex, and these are their tables.
+    /// Each bidder is convex, and these are their tables.
     Tables(Vec<Rho>),
-    /// The list of this bidder isn't convex; it is the first such.
+    /// This bidder isn't convex; it is the first such.
     Invalid(usize),
 }
 
-/// The tables of the bidders at the prices, where each list is convex.
+/// The tables of the bidders at the prices, where each is convex.
 pub fn bidder_tables(alloc: Global, auction: &Auction, prices: &Prices) -> Result<Taken, Memory>
     requires { AreAmounts (length auction.now.goods) prices.now.items }
     ensures { IfOk result (IsTaken (auction_text auction.now) prices.now.items) }
 {
     let mut tables = Vec::new(alloc);
     for k in 0..auction.count() {
-        let Some(list) = valid_list(alloc, auction, k)? else {
+        let Some(member) = member(alloc, auction, k)? else {
             return Ok(Taken::Invalid(k));
         };
-        let table = rho_of(alloc, &list, prices)?;
+        let table = rho_of(alloc, &member, prices)?;
         let Ok(()) = tables.push(table) else {
             return Err(Memory);
         };

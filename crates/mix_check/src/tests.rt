@@ -26,6 +26,10 @@ const TWICE: &[u8] =
 const LAST_FIRST: &[u8] =
     b"mix,2\ngoods,A,B\nsupply,1,1\nreserve,0,0\nbid,P,1,5,5\nbid,Q,1,5,5\norder,Q,P\nend\n";
 
+// P bids for three units of one good, and has a cap of two.
+const CAPPED: &[u8] =
+    b"mix,3\ngoods,A\nsupply,3\nreserve,0\nbid,P,1,9\nbid,P,1,7\nbid,P,1,5\ncap,P,2\nend\n";
+
 // The verdict on the outcome of these lines, written after an auction.
 fn verdict(alloc: Global, auction: &[u8], lines: [&[u8]; 7]) -> Result<Verdict, Fail> {
     let mut text = auction.to_vec(alloc)?;
@@ -275,5 +279,51 @@ fn refusals(rt: HostRuntime) -> Result<(), Fail> {
         verdict(alloc, TAKEN_BACK, cleared)?,
         Verdict::No(Reason::Invalid { bidder: 0 })
     );
+    Ok(())
+}
+
+#[test]
+fn of_a_bidder_with_a_cap(rt: HostRuntime) -> Result<(), Fail> {
+    let alloc = rt.alloc();
+    let head = b"outcome,2\norder,P\n";
+    let cleared = b"cleared\nprice,0\n";
+    let tights = b"tight,P,A,2,0\n";
+    let end = b"end\n";
+    let cases: [([&[u8]; 7], Verdict); 3] = [
+        (
+            [
+                head,
+                cleared,
+                b"share,P,2,0\n",
+                b"return,1\n",
+                tights,
+                end,
+                b"",
+            ],
+            Verdict::Yes,
+        ),
+        (
+            [
+                head,
+                cleared,
+                b"share,P,3,0\n",
+                b"return,0\n",
+                tights,
+                end,
+                b"",
+            ],
+            Verdict::No(Reason::Demand {
+                bidder: 0,
+                set: Set::from_bits(2),
+            }),
+        ),
+        (
+            [head, b"refused,P,-,A,7,-1\n", end, b"", b"", b"", b""],
+            Verdict::No(Reason::Facet { weight: 1 }),
+        ),
+    ];
+    for (lines, expected) in cases {
+        assert_eq!(rt; verdict(alloc, CAPPED, lines)?, expected);
+    }
     Ok(())
 }

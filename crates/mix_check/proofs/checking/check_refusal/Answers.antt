@@ -15,6 +15,6 @@ returns-in-Some c =
 
 pub returns-in-None : goal.returns-in-None
 returns-in-None c =
-    let none : AreConvexBefore c.args.auction.now.bidders c.args.refusal.now.bidder = rw c.in-None.is at c.in_ok-bidder.ensures in
+    let none : AreConvexBefore (auction_text c.args.auction.now) c.args.refusal.now.bidder = rw c.in-None.is at c.in_ok-bidder.ensures in
     let same = weight-same (auction_text c.args.auction.now) c.args.refusal.now c.requires c.bidder.result.1.now c.bidder.ensures.list c.facet_weight-weight.result c.facet_weight-weight.ensures.value c.facet_weight-weight.ensures.range c.if-weight-refusal.false in
     true_refusal (auction_text c.args.auction.now) c.args.refusal.now c.args.auction.now.sound c.requires same none

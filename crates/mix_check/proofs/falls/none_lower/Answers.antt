@@ -38,7 +38,7 @@ loop-goods-preserved c = λ s h falls. ⊎_elim
     (λ (q : s < 2 * c.loop-goods.goods). c.loop-goods.invariant s q falls)
     (λ (q : 2 * c.loop-goods.goods ≤ s).
     let same : s ≡ c.from_bits-set.result = even-set s falls.can_fall.goods.1 c.loop-goods.goods q h ∙ sym c.from_bits-set.ensures in
-    let here = subst (λ (v : ℕ). FallsFreely (length c.args.auction.now.goods) (lyapunov (utilities_of c.args.auction.now.bidders) c.args.auction.now.supply.items) (with_null c.args.auction.now.reserve.items) (with_null c.args.answer.now.prices.items) v) same falls in
+    let here = subst (λ (v : ℕ). FallsFreely (length c.args.auction.now.goods) (lyapunov (utilities_of (auction_text c.args.auction.now)) c.args.auction.now.supply.items) (with_null c.args.auction.now.reserve.items) (with_null c.args.answer.now.prices.items) v) same falls in
     let size = c.requires.shape.prices.0 in
     elim c.else-can_fall.branch [
       | else-can_fall-via-then-can_fall+else-at-sum_over w ↦

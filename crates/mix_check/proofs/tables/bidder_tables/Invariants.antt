@@ -5,6 +5,6 @@ use Rattle.mix_check.proofs.tables.bidder_tables.Given as goal
 
 abbrev pub invariant-loop-k : goal.invariant-loop-k
 invariant-loop-k l = record {
-  convex : AreConvexBefore l.auction.bidders l.k;
+  convex : AreConvexBefore (auction_text l.auction) l.k;
   tables : AreTablesOfFirst (auction_text l.auction) l.prices.items l.k l.tables.items;
 }
