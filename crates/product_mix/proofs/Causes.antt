@@ -21,7 +21,7 @@ use Rattle.product_mix.specs.Readings.{auction_alone}
 use Rattle.product_mix.specs.Solvings.{outcome_status}
 use Rattle.product_mix.specs.Upgradings.{upgradable}
 use Rattle.product_mix.specs.Utilities.{utility_text}
-use Rattle.product_mix.specs.Refusals.{HasConvexLists, HasNonconvexList, IsRefusal}
+use Rattle.product_mix.specs.Refusals.{HasConvexBidders, HasNonconvexBidder, IsRefusal}
 use Rattle.product_mix.specs.declared.words.Command.{Command}
 use Rattle.product_mix.specs.declared.words.Command.TheVariants.{Check, Compare, Prices, Solve, Trail, Upgrade, Utility, Validate}
 use Rattle.product_mix.specs.declared.words.Task.{Task}
@@ -33,8 +33,8 @@ status_of a b e = ap (λ (o : Output). o.status) e
 -- ---- what a text comes to where the command is done, by its status
 -- the output of a command that needs convex lists: done with status 0, or a refusal with status 1
 pub record IsEither (text : List ℕ) (output : Output) : Type 0 where
-  pub met : output.status ≡ 0 → HasConvexLists text
-  pub unmet : output.status ≡ 1 → HasNonconvexList text
+  pub met : output.status ≡ 0 → HasConvexBidders text
+  pub unmet : output.status ≡ 1 → HasNonconvexBidder text
   pub one : output.status < 2
 
 from_refusal : (text : List ℕ) (output : Output) (a : AuctionText) → auction_alone text ≡ Ok a → IsRefusal a output → IsEither text output
@@ -44,7 +44,7 @@ from_refusal text output a is refused = record {
   one = omega (arith, status_of _ _ refused.2);
 }
 
-from_convex : (text : List ℕ) (output : Output) (bytes : List ℕ) (a : AuctionText) → auction_alone text ≡ Ok a → AreConvex a.bidders → output ≡ record { status = 0; bytes = bytes } → IsEither text output
+from_convex : (text : List ℕ) (output : Output) (bytes : List ℕ) (a : AuctionText) → auction_alone text ≡ Ok a → AreConvex a → output ≡ record { status = 0; bytes = bytes } → IsEither text output
 from_convex text output bytes a is convex e = record {
   met = λ s. (a, is, convex);
   unmet = λ s. absurd (omega (arith, s, status_of _ _ e));
@@ -258,9 +258,9 @@ not_unmet Upgrade text e wrong unmet = unmet
 not_unmet Compare text e wrong unmet = unmet
 
 -- and it isn't both
-opposed_lists : (text : List ℕ) → HasConvexLists text → HasNonconvexList text → ⊥
+opposed_lists : (text : List ℕ) → HasConvexBidders text → HasNonconvexBidder text → ⊥
 opposed_lists text c d =
-    let convex : AreConvex d.0.bidders = subst (λ (a : AuctionText). AreConvex a.bidders) (one_value (auction_alone text) c.0 d.0 c.1 d.1) c.2 in
+    let convex : AreConvex d.0 = subst (λ (a : AuctionText). AreConvex a) (one_value (auction_alone text) c.0 d.0 c.1 d.1) c.2 in
     d.4 (convex d.2 d.3)
 
 opposed : (command : Command) (text : List ℕ) → IsMet command text → IsUnmet command text → ⊥

@@ -5,7 +5,7 @@ use Rattle.std.specs.Str.{bytes_eq}
 use Rattle.std.proofs.lemmas.Bool.Decides.{nat_tests}
 use Rattle.mix_text.specs.Auctions.{AuctionText}
 use Rattle.mix_text.specs.Formats.{limits_of}
-use Rattle.mix_text.specs.Reading.{◌>>=◌, begins, bidders_of, bids_from, end_from, field_at, format_of, goods_at, header_of, holds, numbers_of, order_from, placed, read_at, reading_of, row_at}
+use Rattle.mix_text.specs.Reading.{◌>>=◌, begins, bidders_of, bids_from, field_at, format_of, goods_at, header_of, holds, numbers_of, placed, read_at, reading_of, row_at}
 use Rattle.mix_text.specs.Rows.{RestText, RowText, rows_of}
 use Rattle.mix_text.specs.declared.faults.Code.TheVariants as code
 use Rattle.mix_text.proofs.Sound.{then_ok}
@@ -14,6 +14,7 @@ use Rattle.mix_answer.specs.Readings.{outcome_after}
 use Rattle.mix_answer.specs.declared.outcome.Outcome.{Outcome}
 use Rattle.product_mix.specs.Checkings.{auction_and_outcome, or_wrong}
 use Rattle.product_mix.specs.Upgradings.{first_head_in}
+use Rattle.product_mix.proofs.RowsAfterBids.{after_bids}
 
 both_true : (p q : Bool) → (p && q) ≡ true → q ≡ true
 both_true true q e = e
@@ -36,9 +37,6 @@ head_one fields number format first read =
     let one : 1 ≡ format = cc q in
     sym one
 
-pub ok_same : {X E : Type 0} (x y : X) → ◌≡◌ {A = Result X E} (Ok x) (Ok y) → x ≡ y
-ok_same x y e = cc e
-
 first_there : (row : RowText) (rows : List RowText) → row_at (row ∷ rows) 0 ≡ Ok row
 first_there row rows = let t : nat_lt 0 (length (row ∷ rows)) ≡ true = grind (arith, nat_tests) in rw t refl
 
@@ -52,10 +50,8 @@ read_format rows a rest read =
     let supply = then_ok (read_at rows 2 (numbers_of (codes "supply") n (pos 0) (pos 1000000))) _ (a, rest) goods.2 in
     let reserve = then_ok (read_at rows 3 (numbers_of (codes "reserve") n (pos 0) (pos 1000000))) _ (a, rest) supply.2 in
     let bids = then_ok (bids_from header.0 (limits_of header.0) n [] (drop 4 rows)) _ (a, rest) reserve.2 in
-    let order = then_ok (order_from header.0 (bidders_of n bids.0.0) bids.0.1) _ (a, rest) bids.2 in
-    let left = then_ok (end_from (length rows + 1) order.0.1) _ (a, rest) order.2 in
-    let same = ok_same _ (a, rest) left.2 in
-    header.1 ∙ ap (λ (p : AuctionText × RestText). Ok p.0.format) same
+    let last = after_bids header.0 goods.0 supply.0 reserve.0 (bidders_of n bids.0.0) (length rows + 1) bids.0.1 a rest bids.2 in
+    header.1 ∙ ap (λ (z : AuctionText). Ok z.format) last.is
 
 pub format_one : (rows : List RowText) (a : AuctionText) (rest : RestText) → first_head_in rows ≡ Ok tt → reading_of rows ≡ Ok (a, rest) → a.format ≡ 1
 format_one [] a rest first read = let q = read_format [] a rest read in cc q

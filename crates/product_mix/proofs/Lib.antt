@@ -4,8 +4,10 @@ mod ComparedRows
 mod FirstBidders
 mod FormerFormats
 mod NamedReasons
+mod PlacedRows
 mod PrintableWords
 mod PrintedRows
+mod RowsAfterBids
 mod ReadPrices
 mod SoldUnits
 mod Taken

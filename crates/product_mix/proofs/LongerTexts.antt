@@ -1,5 +1,5 @@
 -- The rows of an auction are read in the same way whatever rows follow them.
-use Rattle.std.proofs.Common.{◌≡◌, ◌≢◌, ◌∙◌, sym, ap, ℕ, pos, ◌+◌, ◌≤◌, ◌<◌, List, [], ◌∷◌, ◌++◌, length, drop, true, Result, Ok, Err, arith, nat_lt, inl, inr}
+use Rattle.std.proofs.Common.{◌≡◌, ◌≢◌, ◌∙◌, sym, ap, ℕ, ℤ, pos, Option, ◌+◌, ◌≤◌, ◌<◌, List, [], ◌∷◌, ◌++◌, length, drop, true, Result, Ok, Err, arith, nat_lt, inl, inr}
 use Rattle.std.specs.Prelude.{codes}
 use Rattle.std.proofs.lemmas.Bool.{cases_Bool}
 use Rattle.std.proofs.lemmas.Bool.Decides.{nat_tests}
@@ -7,12 +7,14 @@ use Rattle.std.proofs.lemmas.List.{drop-append-le, get_or_append_left, length-ap
 use Rattle.mix_num.specs.Orders.{places}
 use Rattle.mix_text.specs.Auctions.{AuctionText}
 use Rattle.mix_text.specs.Bidders.{Named}
+use Rattle.mix_text.specs.Caps.{no_caps}
 use Rattle.mix_text.specs.Formats.{limits_of}
-use Rattle.mix_text.specs.Reading.{◌>>=◌, NamedBid, bid_row_of, bidders_of, bids_from, end_from, end_of, ends_bids, goods_at, header_of, is_order_row, limit_of, numbers_of, order_from, order_row_of, placed, read_at, reading_of, row_at, unless_past}
+use Rattle.mix_text.specs.Reading.{◌>>=◌, NamedBid, bid_row_of, bidders_of, bids_from, cap_row_of, caps_from, end_from, end_of, ends_bids, goods_at, header_of, is_cap_row, is_order_row, limit_of, numbers_of, order_from, order_row_of, placed, read_at, reading_of, row_at, unless_past}
 use Rattle.mix_text.specs.Rows.{RestText, RowText}
 use Rattle.mix_text.specs.declared.faults.Code.{Code}
+use Rattle.mix_text.specs.declared.faults.TextError.{TextError}
 use Rattle.mix_text.specs.declared.formats.Limits.{Limits}
-use Rattle.product_mix.proofs.FormerFormats.{ok_same}
+use Rattle.product_mix.proofs.RowsAfterBids.{ok_same}
 use Rattle.mix_text.proofs.Sound.{then_ok}
 
 -- a step that went well, and what came of it
@@ -57,6 +59,27 @@ bids_more format limits n more before (row ∷ rest) bids left some e = elim (ca
       (then_is (unless_past row.number (limit_of limits n before b.0)) _ within.0 (Ok (bids, left ++ more)) within.1 next)))
 ]
 
+-- rows are left after the caps, so there were rows before them
+caps_some : (format : ℕ) (bidders : Named) (caps : List (Option ℤ)) (rows : List RowText) (read : List (Option ℤ)) (left : List RowText) → left ≢ [] → caps_from format bidders caps rows ≡ Ok (read, left) → rows ≢ []
+unfolding caps_from
+caps_some format bidders caps [] read left some e = absurd (some (let same = ok_same (caps, []) (read, left) e in sym (ap (λ p. p.1) same)))
+caps_some format bidders caps (row ∷ rest) read left some e = λ z. cc z
+
+-- the caps end at a row, so those that follow it are left as they are
+caps_more : (format : ℕ) (bidders : Named) (more : List RowText) (caps : List (Option ℤ)) (rows : List RowText) (read : List (Option ℤ)) (left : List RowText) → left ≢ []
+    → caps_from format bidders caps rows ≡ Ok (read, left) → caps_from format bidders caps (rows ++ more) ≡ Ok (read, left ++ more)
+unfolding caps_from
+caps_more format bidders more caps [] read left some e = absurd (some (let same = ok_same (caps, []) (read, left) e in sym (ap (λ p. p.1) same)))
+caps_more format bidders more caps (row ∷ rest) read left some e = elim (cases_Bool (is_cap_row format row.fields)) [
+  | inl t ↦ (
+      let one = then_ok (placed row.number (cap_row_of bidders caps row.fields)) _ (read, left) (rw t at e) in
+      let next = caps_more format bidders more one.0 rest read left some one.2 in
+      rw t (then_is (placed row.number (cap_row_of bidders caps row.fields)) _ one.0 (Ok (read, left ++ more)) one.1 next))
+  | inr f ↦ (
+      let same = ok_same (caps, row ∷ rest) (read, left) (rw f at e) in
+      rw f (ap (λ (p : List (Option ℤ) × List RowText). Ok (p.0, p.1 ++ more)) same))
+]
+
 -- rows are left after the order, so there were rows before it
 order_some : (format : ℕ) (bidders : Named) (rows : List RowText) (order : List ℕ) (left : List RowText) → left ≢ [] → order_from format bidders rows ≡ Ok (order, left) → rows ≢ []
 unfolding order_from
@@ -92,6 +115,14 @@ end_more next later more (row ∷ rows) rest e =
     let ended = then_ok (placed row.number (end_of row.fields)) (λ _. Ok rows) rest e in
     let same = ok_same rows rest ended.2 in
     then_is (placed row.number (end_of row.fields)) (λ _. Ok (rows ++ more)) ended.0 (Ok (rest ++ more)) ended.1 (ap (λ (z : List RowText). Ok (z ++ more)) same)
+
+-- rows from the order on that are read up to `end` are some
+served_some : {X : Type 0} (format : ℕ) (bidders : Named) (rows : List RowText) (next : ℕ) (f : List ℕ × List RowText → List RowText → Result X TextError) (x : X)
+    → (order_from format bidders rows >>= λ served. end_from next served.1 >>= λ rest. f served rest) ≡ Ok x → rows ≢ []
+served_some format bidders rows next f x e =
+    let stated = then_ok (order_from format bidders rows) (λ served. end_from next served.1 >>= λ rest. f served rest) x e in
+    let ended = then_ok (end_from next stated.0.1) (f stated.0) x stated.2 in
+    order_some format bidders rows stated.0.0 stated.0.1 (end_some next stated.0.1 ended.0 ended.1) stated.1
 
 -- a reading of a longer text, step by step: what a step gives there, and so what all that follows it gives
 then_longer : {A B E : Type 0} (r s : Result A E) (f g : A → Result B E) (longer : A → A) (y z : B) → ((x : A) → r ≡ Ok x → f x ≡ Ok y → (s ≡ Ok (longer x)) × (g (longer x) ≡ Ok z)) → (r >>= f) ≡ Ok y → (s >>= g) ≡ Ok z
@@ -130,20 +161,24 @@ read_longer rows more a rest read =
                 read_more rows more 3 (amounts (codes "reserve")) reserve reserve_read,
                 let bids_now = bids_from format (limits_of format) (length goods) [] in
                     then_longer (bids_now (drop 4 rows)) (bids_now (drop 4 (rows ++ more))) _ _ (λ p. (p.0, p.1 ++ more)) now then (λ bids bids_read after_bids. (
-                      let stated = then_ok (order_from format (bidders_of (length goods) bids.0) bids.1) _ now after_bids in
-                          let ended = then_ok (end_from (length rows + 1) stated.0.1) _ now stated.2 in
-                          let some = order_some format (bidders_of (length goods) bids.0) bids.1 stated.0.0 stated.0.1 (end_some (length rows + 1) stated.0.1 ended.0 ended.1) stated.1 in
+                      let bidders = bidders_of (length goods) bids.0 in
+                          let capped = then_ok (caps_from format bidders (no_caps (length bidders)) bids.1) _ now after_bids in
+                          let some = caps_some format bidders (no_caps (length bidders)) bids.1 capped.0.0 capped.0.1 (served_some format bidders capped.0.1 (length rows + 1) _ now capped.2) capped.1 in
                           ap bids_now (drop-append-le 4 rows more (four_read rows (amounts (codes "reserve")) reserve reserve_read))
                           ∙ bids_more format (limits_of format) (length goods) more [] (drop 4 rows) bids.0 bids.1 some bids_read,
                       let bidders = bidders_of (length goods) bids.0 in
-                          then_longer (order_from format bidders bids.1) (order_from format bidders (bids.1 ++ more)) _ _ (λ p. (p.0, p.1 ++ more)) now then (λ order order_read after_order. (
-                            let ended = then_ok (end_from (length rows + 1) order.1) _ now after_order in
-                                order_more format bidders more bids.1 order.0 order.1 (end_some (length rows + 1) order.1 ended.0 ended.1) order_read,
-                            then_longer (end_from (length rows + 1) order.1) (end_from size (order.1 ++ more)) _ _ (λ x. x ++ more) now then (λ left left_read after_left. (
-                              end_more (length rows + 1) size more order.1 left left_read,
-                              let same = ok_same _ now after_left in
-                                  ap (λ (p : AuctionText × RestText). Ok (p.0, longer p.1)) same,
-                            )) after_order,
+                          let none = no_caps (length bidders) in
+                          then_longer (caps_from format bidders none bids.1) (caps_from format bidders none (bids.1 ++ more)) _ _ (λ p. (p.0, p.1 ++ more)) now then (λ capped capped_read after_capped. (
+                            caps_more format bidders more none bids.1 capped.0 capped.1 (served_some format bidders capped.1 (length rows + 1) _ now after_capped) capped_read,
+                            then_longer (order_from format bidders capped.1) (order_from format bidders (capped.1 ++ more)) _ _ (λ p. (p.0, p.1 ++ more)) now then (λ order order_read after_order. (
+                              let ended = then_ok (end_from (length rows + 1) order.1) _ now after_order in
+                                  order_more format bidders more capped.1 order.0 order.1 (end_some (length rows + 1) order.1 ended.0 ended.1) order_read,
+                              then_longer (end_from (length rows + 1) order.1) (end_from size (order.1 ++ more)) _ _ (λ x. x ++ more) now then (λ left left_read after_left. (
+                                end_more (length rows + 1) size more order.1 left left_read,
+                                let same = ok_same _ now after_left in
+                                    ap (λ (p : AuctionText × RestText). Ok (p.0, longer p.1)) same,
+                              )) after_order,
+                            )) after_capped,
                           )) after_bids,
                     )) after_reserve,
               )) after_supply,

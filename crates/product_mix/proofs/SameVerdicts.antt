@@ -16,7 +16,7 @@ abbrev in_format : ℕ → AuctionText → AuctionText
 in_format format a = record a { format = format }
 
 true_same : (a : AuctionText) (format : ℕ) (outcome : Outcome) → IsTrueOutcome a outcome → IsTrueOutcome (in_format format a) outcome
-true_same a format (Refused r) is = is
+true_same a format (Refused r) is = record { bidder = is.bidder; first = is.first; refused = is.refused; facet = is.facet }
 true_same a format (Cleared answer) is = record { convex = is.convex; solution = is.solution; payments = is.payments; tights = is.tights }
 
 holds_same : (a : AuctionText) (format : ℕ) (outcome : Outcome) (r : Reason) → Holds a outcome r → Holds (in_format format a) outcome r

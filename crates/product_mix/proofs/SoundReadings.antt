@@ -5,15 +5,18 @@ use Rattle.std.proofs.lemmas.Bool.{cases_Bool}
 use Rattle.std.proofs.lemmas.Bool.Decides.{nat_tests}
 use Rattle.std.proofs.lemmas.List.{length-drop}
 use Rattle.mix_text.specs.Auctions.{AuctionText, IsAuction}
+use Rattle.mix_text.specs.Caps.{no_caps}
 use Rattle.mix_text.specs.Formats.{limits_of}
-use Rattle.mix_text.specs.Reading.{◌>>=◌, NamedBid, bid_row_of, bidders_of, bids_from, end_from, ends_bids, goods_at, header_of, limit_of, numbers_of, order_from, placed, read_at, reading_of, row_at, unless_past}
+use Rattle.mix_text.specs.Reading.{◌>>=◌, NamedBid, bid_row_of, bidders_of, bids_from, ends_bids, goods_at, header_of, limit_of, numbers_of, order_from, placed, ReadsBids, read_at, reading_of, row_at, unless_past}
 use Rattle.mix_text.specs.Rows.{RestText, RowText}
 use Rattle.mix_text.specs.declared.formats.Limits.{Limits}
+use Rattle.mix_text.proofs.CapsRead.{caps_ok, first_caps}
 use Rattle.mix_text.proofs.FormatLimits.{limits_are}
+use Rattle.mix_text.proofs.NoCaps.{are_no_caps}
 use Rattle.mix_text.proofs.Sound.{then_ok}
-use Rattle.mix_text.proofs.SoundAuctions.{auction_ok}
+use Rattle.mix_text.proofs.SoundAuctions.{auction_ok, books_read}
 use Rattle.mix_text.proofs.TieOrders.{first_order, order_ok}
-use Rattle.product_mix.proofs.FormerFormats.{ok_same}
+use Rattle.product_mix.proofs.RowsAfterBids.{after_bids, ok_same}
 
 -- some of the rows, from a place on
 record IsDropped (rows left : List RowText) : Type 0 where
@@ -70,15 +73,19 @@ reading_sound rows a rest read =
     let reserve = then_ok (read_at rows 3 (numbers_of (codes "reserve") n (pos 0) (pos 1000000))) _ (a, rest) supply.2 in
     let bids = then_ok (bids_from header.0 limits n [] (drop 4 rows)) _ (a, rest) reserve.2 in
     let bidders = bidders_of n bids.0.0 in
-    let order = then_ok (order_from header.0 bidders bids.0.1) _ (a, rest) bids.2 in
-    let left = then_ok (end_from (length rows + 1) order.0.1) _ (a, rest) order.2 in
-    let same = ok_same _ (a, rest) left.2 in
+    let read_after = after_bids header.0 goods.0 supply.0 reserve.0 bidders (length rows + 1) bids.0.1 a rest bids.2 in
+    let caps = read_after.caps in
+    let order = read_after.order in
+    let none = no_caps (length bidders) in
     let last = then_ok (row_at rows 3) _ reserve.0 reserve.1 in
     let four = there rows 3 last.0 last.1 in
     let after = left_of header.0 limits n [] (drop 4 rows) bids.0.0 bids.0.1 bids.1 in
     let fewer = length-drop 4 rows in
     let is : bids.0.1 ≡ drop (4 + after.place) rows = after.is ∙ drop_after 4 after.place rows in
-    subst IsAuction (ap (λ p. p.0) same)
-    (auction_ok rows header.0 limits n goods.0 supply.0 reserve.0 bidders order.0.0 (4 + after.place) (limits_are header.0) refl header.1 goods.1 supply.1 reserve.1
-    (record { bids = bids.0.0; read = bids.1 ∙ ap (λ z. Ok (bids.0.0, z)) is; gathered = refl; within = still after.place (length rows) (length (drop 4 rows)) fewer four after.within })
-    (order_ok header.0 bidders bids.0.1 order.0 order.1) (λ e. first_order bidders bids.0.1 order.0 (ap (λ f. order_from f bidders bids.0.1) (sym e) ∙ order.1)))
+    let reads : ReadsBids header.0 limits n rows bidders (4 + after.place) =
+    record { bids = bids.0.0; read = bids.1 ∙ ap (λ z. Ok (bids.0.0, z)) is; gathered = refl; within = still after.place (length rows) (length (drop 4 rows)) fewer four after.within } in
+    let books = books_read header.0 limits n rows bidders (4 + after.place) (limits_are header.0) reads in
+    subst IsAuction read_after.is
+    (auction_ok rows header.0 limits n goods.0 supply.0 reserve.0 bidders caps.0 order.0 (4 + after.place) (limits_are header.0) refl header.1 goods.1 supply.1 reserve.1 reads
+    (caps_ok header.0 n bidders none bids.0.1 caps books (are_no_caps bidders) read_after.caps_read) (λ old. first_caps header.0 bidders none bids.0.1 caps old read_after.caps_read)
+    (order_ok header.0 bidders caps.1 order read_after.order_read) (λ e. first_order bidders caps.1 order (ap (λ f. order_from f bidders caps.1) (sym e) ∙ read_after.order_read)))

@@ -1,5 +1,5 @@
 -- How long a text is that `upgrade` prints: an auction of format 1 and its outcome, in format 2, have no more than 16,777,216 bytes.
-use Rattle.std.proofs.Common.{◌≡◌, refl, subst, ◌<◌, ◌≤◌, ◌+◌, ◌*◌, ◌^◌, ◌≤ℤ◌, ℕ, zero, suc, ℤ, pos, neg_ℤ, true, List, [], ◌∷◌, ◌++◌, length, map, get_or, arith, inl, inr, Option, Some, None, All}
+use Rattle.std.proofs.Common.{◌≡◌, refl, ap, ◌∙◌, subst, ◌<◌, ◌≤◌, ◌+◌, ◌*◌, ◌^◌, ◌≤ℤ◌, ℕ, zero, suc, ℤ, pos, neg_ℤ, true, List, [], ◌∷◌, ◌++◌, length, map, get_or, arith, inl, inr, Option, Some, None, All}
 use Rattle.std.specs.Prelude.{codes}
 use Rattle.std.specs.Fmt.{signed_decimal}
 use Rattle.std.specs.Int.RustNames.{FitsSigned}
@@ -21,6 +21,7 @@ use Rattle.mix_bids.specs.Offers.{IsOffer}
 use Rattle.mix_bids.specs.declared.bid.Bid.{Bid}
 use Rattle.mix_text.specs.Auctions.{AuctionText, IsAuction, IsBook}
 use Rattle.mix_text.specs.Bidders.{Named, name_at, names_at}
+use Rattle.mix_text.specs.Caps.{no_caps}
 use Rattle.mix_text.specs.Formats.{has_order, limits_of}
 use Rattle.mix_text.specs.Limits.{MeetsLimits}
 use Rattle.mix_text.specs.Pages.{after_commas, line_of, printed}
@@ -36,7 +37,7 @@ use Rattle.mix_answer.specs.declared.share.Share.{Share}
 use Rattle.mix_answer.proofs.PrintedPages.{printed-append}
 use Rattle.mix_answer.proofs.SpelledOutcomes.{AreNamed, bidders_named, goods_named, order_named, pairs_named}
 use Rattle.mix_answer.proofs.SpelledRows.{version_small}
-use Rattle.mix_trial.specs.Printing.{auction_rows, bid_row, bidder_rows, goods_row, value_text}
+use Rattle.mix_trial.specs.Printing.{auction_rows, bid_row, bidder_rows, cap_rows, goods_row, value_text}
 use Rattle.mix_trial.specs.Printing.{head_row as first_row}
 use Rattle.product_mix.specs.Upgradings.{upgraded, upgraded_text}
 
@@ -240,8 +241,13 @@ order_within a is few = elim (cases_Bool (has_order a.format)) [
   | inr f ↦ rw f (omega arith)
 ]
 
-auction_within : (a : AuctionText) → IsAuction a → length a.goods ≤ 5 → length a.bidders ≤ 64 → AreWithin 8451795 (auction_rows a)
-auction_within a is goods bidders =
+no_cap_rows : (bidders : Named) → cap_rows bidders (no_caps (length bidders)) ≡ []
+no_cap_rows [] = refl
+no_cap_rows (b ∷ bs) = no_cap_rows bs
+
+-- a text of format 1 or 2, which has no caps
+auction_within : (a : AuctionText) → IsAuction a → a.format ≤ 2 → length a.goods ≤ 5 → length a.bidders ≤ 64 → AreWithin 8451795 (auction_rows a)
+auction_within a is former goods bidders =
     let format = is.format in
     let supplies = is.supply.0 in
     let reserves = is.reserve.0 in
@@ -249,6 +255,8 @@ auction_within a is goods bidders =
     let reserve : List (List ℕ) = amounts_row (codes "reserve") a.reserve in
     let last : List (List (List ℕ)) = order_rows a ++ end_row ∷ [] in
     let rows : List (List (List ℕ)) = bidder_rows a.bidders ++ last in
+    let uncapped : cap_rows a.bidders a.caps ≡ [] = ap (cap_rows a.bidders) (is.uncapped former) ∙ no_cap_rows a.bidders in
+    rw uncapped (
     let bids : AreWithin 8448000 (bidder_rows a.bidders) = let h = bidders_within (length a.goods) a.bidders goods (bidders_named a is) is.books in omega (arith, bidders, h) in
     let end = more_within 330 0 end_row [] (word_line (codes "end") (omega arith)) none_within in
     let number_line : IsLine (first_row a.format) = line (codes "mix") (signed_decimal (pos a.format) ∷ []) (omega arith) (omega arith) (one (signed_decimal (pos a.format)) (fitting (pos a.format) (omega (arith, ints)))) in
@@ -257,7 +265,7 @@ auction_within a is goods bidders =
     (more_within 330 8451135 (goods_row a.goods) (supply ∷ reserve ∷ rows) goods_line
     (more_within 330 8450805 supply (reserve ∷ rows) (amounts_line (codes "supply") a.supply (omega arith) (omega (arith, goods, supplies)) is.supply.1)
     (more_within 330 8450475 reserve rows (amounts_line (codes "reserve") a.reserve (omega arith) (omega (arith, goods, reserves)) is.reserve.1)
-    (both_within 8448000 2475 (bidder_rows a.bidders) last bids (both_within 2145 330 (order_rows a) (end_row ∷ []) (order_within a is bidders) end)))))
+    (both_within 8448000 2475 (bidder_rows a.bidders) last bids (both_within 2145 330 (order_rows a) (end_row ∷ []) (order_within a is bidders) end))))))
 
 -- ---- the outcome
 
@@ -305,10 +313,10 @@ outcome_within a outcome is goods bidders shape =
 
 -- ---- both texts
 
-text_short : (a : AuctionText) (outcome : Outcome) → IsAuction a → length a.goods ≤ 5 → length a.bidders ≤ 64 → HasShape a outcome → length (printed (auction_rows a) ++ outcome_text a outcome) ≤ 16777216
-text_short a outcome is goods bidders shape =
+text_short : (a : AuctionText) (outcome : Outcome) → IsAuction a → a.format ≤ 2 → length a.goods ≤ 5 → length a.bidders ≤ 64 → HasShape a outcome → length (printed (auction_rows a) ++ outcome_text a outcome) ≤ 16777216
+text_short a outcome is former goods bidders shape =
     wider 8582310 16777216 (printed (auction_rows a) ++ outcome_text a outcome) (omega arith)
-    (texts 8451795 130515 (printed (auction_rows a)) (outcome_text a outcome) (auction_within a is goods bidders) (outcome_within a outcome is goods bidders shape))
+    (texts 8451795 130515 (printed (auction_rows a)) (outcome_text a outcome) (auction_within a is former goods bidders) (outcome_within a outcome is goods bidders shape))
 
 -- the shape of an outcome says nothing of the format
 pub shape_of_two : (a : AuctionText) (outcome : Outcome) → HasShape a outcome → HasShape (upgraded a) outcome
@@ -321,4 +329,4 @@ unfolding limits_of
 upgraded_short a outcome is limits first shape =
     let goods : length a.goods ≤ 5 = subst (λ (f : ℕ). length a.goods ≤ (limits_of f).goods) first limits.goods in
     let bidders : length a.bidders ≤ 64 = subst (λ (f : ℕ). length a.bidders ≤ (limits_of f).bidders) first limits.bidders in
-    text_short (upgraded a) outcome (is_of_two a is) goods bidders (shape_of_two a outcome shape)
+    text_short (upgraded a) outcome (is_of_two a is first) (omega arith) goods bidders (shape_of_two a outcome shape)

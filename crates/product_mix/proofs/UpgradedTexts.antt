@@ -35,8 +35,9 @@ use Rattle.product_mix.specs.declared.words.Command.TheVariants.{Check, Upgrade}
 use Rattle.product_mix.specs.declared.words.Task.{Task}
 use Rattle.product_mix.specs.declared.words.Task.TheVariants.{OnText}
 use Rattle.product_mix.proofs.Causes.{refusal_low, status_of}
-use Rattle.product_mix.proofs.FormerFormats.{format_one, ok_same}
+use Rattle.product_mix.proofs.FormerFormats.{format_one}
 use Rattle.product_mix.proofs.LongerTexts.{read_longer}
+use Rattle.product_mix.proofs.RowsAfterBids.{ok_same}
 use Rattle.product_mix.proofs.SameVerdicts.{checking_same}
 use Rattle.product_mix.proofs.SoundReadings.{reading_sound}
 use Rattle.product_mix.proofs.UpgradedSizes.{shape_of_two, upgraded_short}
@@ -92,7 +93,7 @@ checked_alike text output short done reply =
     let a = done.0 in
     let outcome = done.1 in
     let was = was_read text a outcome done.2 in
-    let is = is_of_two a was.is in
+    let is = is_of_two a was.is was.one in
     let meets = meets_limits_of_two a was.is was.one was.meets in
     let again = read_both (upgraded a) outcome is meets (shape_of_two a outcome was.shape) in
     let few = upgraded_short a outcome was.is was.meets was.one was.shape in

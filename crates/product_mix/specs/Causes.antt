@@ -10,7 +10,7 @@ use Rattle.product_mix.specs.Calls.{IsOutput, IsWrong}
 use Rattle.product_mix.specs.Checkings.{HasFalseOutcome, HasTrueOutcome}
 use Rattle.product_mix.specs.Comparisons.{HasAuction}
 use Rattle.product_mix.specs.Outputs.{Output, most_bytes}
-use Rattle.product_mix.specs.Refusals.{HasConvexLists, HasNonconvexList}
+use Rattle.product_mix.specs.Refusals.{HasConvexBidders, HasNonconvexBidder}
 use Rattle.product_mix.specs.Upgradings.{upgradable}
 use Rattle.product_mix.specs.Utilities.{utility_text}
 use Rattle.product_mix.specs.declared.words.Command.{Command}
@@ -18,24 +18,24 @@ use Rattle.product_mix.specs.declared.words.Command.TheVariants.{Check, Compare,
 use Rattle.product_mix.specs.declared.words.Task.{Task}
 use Rattle.product_mix.specs.declared.words.Task.TheVariants.{OnText, Trial}
 
--- a text is as the command wants it, and what the command asks is met: that each list is convex, or that the outcome is true
+-- a text is as the command wants it, and what the command asks is met: that each bidder is convex, or that the outcome is true
 abbrev pub IsMet : Command → List ℕ → Type 0
 IsMet Utility text = (bytes : List ℕ) × (utility_text text ≡ Ok bytes)
-IsMet Validate text = HasConvexLists text
-IsMet Prices text = HasConvexLists text
-IsMet Trail text = HasConvexLists text
-IsMet Solve text = HasConvexLists text
+IsMet Validate text = HasConvexBidders text
+IsMet Prices text = HasConvexBidders text
+IsMet Trail text = HasConvexBidders text
+IsMet Solve text = HasConvexBidders text
 IsMet Check text = HasTrueOutcome text
 IsMet Upgrade text = (a : AuctionText) × (outcome : Outcome) × (upgradable text ≡ Ok (a, outcome))
 IsMet Compare text = HasAuction text
 
--- a text is as the command wants it, but what the command asks isn't met: some list isn't convex, or the outcome isn't true
+-- a text is as the command wants it, but what the command asks isn't met: some bidder isn't convex, or the outcome isn't true
 abbrev pub IsUnmet : Command → List ℕ → Type 0
 IsUnmet Utility text = ⊥
-IsUnmet Validate text = HasNonconvexList text
-IsUnmet Prices text = HasNonconvexList text
-IsUnmet Trail text = HasNonconvexList text
-IsUnmet Solve text = HasNonconvexList text
+IsUnmet Validate text = HasNonconvexBidder text
+IsUnmet Prices text = HasNonconvexBidder text
+IsUnmet Trail text = HasNonconvexBidder text
+IsUnmet Solve text = HasNonconvexBidder text
 IsUnmet Check text = HasFalseOutcome text
 IsUnmet Upgrade text = ⊥
 IsUnmet Compare text = ⊥

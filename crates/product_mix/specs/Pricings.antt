@@ -20,7 +20,7 @@ prices_page prices = line_of (price_row prices) ++ line_of (codes "end" ∷ [])
 -- the output of `prices` for an auction: its least prices where each list is convex, else a refusal
 abbrev pub IsPricing : AuctionText → Output → Type 0
 IsPricing a output =
-    ((prices : List ℤ) × AreConvex a.bidders × AreLeastPrices a prices × (output ≡ record { status = 0; bytes = prices_page prices }))
+    ((prices : List ℤ) × AreConvex a × AreLeastPrices a prices × (output ≡ record { status = 0; bytes = prices_page prices }))
     ⊎ IsRefusal a output
 
 -- the output of `prices` for a text of an auction alone

@@ -25,12 +25,12 @@ trail_page steps prices = printed (map step_row steps) ++ prices_page prices
 
 -- the trail of an auction from its reserves, and the prices at its end
 abbrev pub IsTrailOf : AuctionText → List LongStep → List ℤ → Type 0
-IsTrailOf a steps prices = IsTrail (length a.goods) (lyapunov (utilities_of a.bidders) a.supply) (with_null a.reserve) steps (with_null prices)
+IsTrailOf a steps prices = IsTrail (length a.goods) (lyapunov (utilities_of a) a.supply) (with_null a.reserve) steps (with_null prices)
 
 -- the output of `trail` for an auction: the trail from the reserves to the least prices where each list is convex, else a refusal
 abbrev pub IsTrailing : AuctionText → Output → Type 0
 IsTrailing a output =
-    ((steps : List LongStep) × (prices : List ℤ) × AreConvex a.bidders × IsTrailOf a steps prices × AreLeastPrices a prices
+    ((steps : List LongStep) × (prices : List ℤ) × AreConvex a × IsTrailOf a steps prices × AreLeastPrices a prices
     × (output ≡ record { status = 0; bytes = trail_page steps prices }))
     ⊎ IsRefusal a output
 

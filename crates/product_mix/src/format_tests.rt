@@ -38,10 +38,11 @@ fn eight_goods(rt: HostRuntime) -> Result<(), Fail> {
 #[test]
 fn headers(rt: HostRuntime) -> Result<(), Fail> {
     let alloc = rt.alloc();
-    let cases: [(&[u8], u8, &[u8]); 9] = [
+    let cases: [(&[u8], u8, &[u8]); 10] = [
         (b"mix,2\n", 0, b"price,0,0,0,0,0,0,0,0\nend\n"),
         (b"mix,1\n", 4, b"limit,2,goods\n"),
-        (b"mix,3\n", 3, b"fault,1,header\n"),
+        (b"mix,3\n", 0, b"price,0,0,0,0,0,0,0,0\nend\n"),
+        (b"mix,4\n", 3, b"fault,1,header\n"),
         (b"mix,0\n", 3, b"fault,1,header\n"),
         (b"mix,02\n", 3, b"fault,1,header\n"),
         (b"mix,12\n", 3, b"fault,1,header\n"),

@@ -2,6 +2,8 @@
 #![tactic(auto)]
 
 mod alone;
+#[cfg(test)]
+mod cap_tests;
 mod checking;
 mod command;
 mod comparison;

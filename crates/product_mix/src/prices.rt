@@ -1,4 +1,4 @@
-// The command `prices`: the least prices where every list is convex, else a refusal of the first bidder whose list isn't.
+// The command `prices`: the least prices where every bidder is convex, else a refusal of the first who isn't.
 ghost use Rattle.std.specs.Prelude.{◌≡◌, ◌<◌, ◌≤◌, length, IfOk, IfErr};
 ghost use Rattle.mix_text.specs.AuctionTexts.{auction_text};
 ghost use Rattle.mix_text.specs.Reading.{IsFromText};
@@ -27,7 +27,7 @@ fn prices_text(alloc: Global, prices: &Prices) -> Result<Vec<u8>, Memory>
     page.finish()
 }
 
-// The least prices of the auction where every list is convex, else a refusal.
+// The least prices of the auction where every bidder is convex, else a refusal.
 fn priced(alloc: Global, auction: &Auction) -> Result<Reply, Memory>
     ensures output { IfOk result (λ reply. IsPricing (auction_text auction.now) (output_of reply)) }
     ensures status { IfOk result (λ reply. reply.status < 2) }
@@ -45,8 +45,8 @@ fn priced(alloc: Global, auction: &Auction) -> Result<Reply, Memory>
     }
 }
 
-/// Reads an auction that nothing follows, and prints with status 0 its least prices where every list is convex, else with
-/// status 1 a refusal of the first bidder whose list isn't.
+/// Reads an auction that nothing follows, and prints with status 0 its least prices where every bidder is convex, else with
+/// status 1 a refusal of the first bidder who isn't.
 ///
 /// The error is what is wrong first with the text, which has at most 16,777,216 bytes; `Memory` may come in place of any
 /// answer.

@@ -64,9 +64,9 @@ pub fn refused(alloc: Global, error: TextError) -> Result<Reply, Memory>
     }
 }
 
-/// The reply to an auction with this refusal of a bidder, whose list isn't convex: status 1 and the outcome's text.
+/// The reply to an auction with this refusal of a bidder, who isn't convex: status 1 and the outcome's text.
 pub fn refused_bidder(alloc: Global, auction: &Auction, refusal: Refusal) -> Result<Reply, Memory>
-    requires truth { IsTrueRefusal auction.now.bidders refusal }
+    requires truth { IsTrueRefusal (auction_text auction.now) refusal }
     requires shape { FitsAuction (auction_text auction.now) refusal }
     ensures output { IfOk result (λ reply. IsRefusal (auction_text auction.now) (output_of reply)) }
     ensures status { IfOk result (λ reply. reply.status ≡ 1) }

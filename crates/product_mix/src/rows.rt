@@ -1,8 +1,12 @@
 // The rows that the program prints, one function for each kind.
-ghost use Rattle.std.specs.Prelude.{◌≡◌, ◌<◌, ◌++◌, ◌∷◌, [], codes, decimal, length, OnOk};
-ghost use Rattle.mix_num.specs.Ranges.{ArePrices};
-ghost use Rattle.mix_text.specs.Bidders.{bidder_at, name_at};
+ghost use Rattle.std.specs.Prelude.{◌≡◌, ◌<◌, ◌++◌, ◌∷◌, [], codes, decimal, length, IfOk, OnOk};
+ghost use Rattle.mix_num.specs.Ranges.{HaveRoom, Lies};
+ghost use Rattle.mix_num.specs.Vectors.{with_null};
+ghost use Rattle.mix_text.specs.AuctionTexts.{auction_text};
+ghost use Rattle.mix_text.specs.Bidders.{list_at, name_at};
+ghost use Rattle.mix_text.specs.Caps.{cap_at};
 ghost use Rattle.mix_text.specs.Pages.{line_of};
+ghost use Rattle.mix_answer.specs.Utilities.{entrant_at, entrant_utility, total_under};
 ghost use Rattle.product_mix.specs.Comparisons.{differ_row, same_row};
 ghost use Rattle.product_mix.specs.Outputs.{fault_row, limit_row};
 ghost use Rattle.product_mix.specs.Pricings.{price_row};
@@ -14,9 +18,12 @@ ghost use Rattle.product_mix.specs.Validities.{valid_row};
 use crate::words::{word_of_code, word_of_limit};
 use itoa::Buffer;
 use mix_answer::add_bidder;
+use mix_cap::Capped;
 use mix_descent::LongStep;
+use mix_law::Convex;
 use mix_num::{Bundle, Memory, Prices};
 use mix_text::{Auction, Fault, Limit, Page};
+use std::alloc::Global;
 
 /// Adds a number that has no sign to the open row.
 #[tactic(auto, using(mix_text::proofs::PrintedNumbers::decimal_printable))]
@@ -51,8 +58,42 @@ pub fn add_limit(page: &mut Page, limit: Limit) -> Result<(), Memory>
     page.end_row()
 }
 
+// The indirect utility of the bidder at a place at the prices.
+fn utility_of_bidder(
+    alloc: Global,
+    auction: &Auction,
+    k: usize,
+    prices: &Prices,
+) -> Result<i64, Memory>
+    requires place { k < length auction.now.bidders }
+    requires prices { HaveRoom (length auction.now.goods) prices.now.items }
+    ensures value { IfOk result (λ value. value ≡ entrant_utility (entrant_at (auction_text auction.now) k) (with_null prices.now.items)) }
+    ensures range { IfOk result (λ value. Lies 40000000000000 value) }
+{
+    let (_, list) = auction.bidder(k);
+    match auction.cap(k) {
+        Some(cap) => Ok(Capped::new(list.copy(alloc)?, cap).value(prices)),
+        None => Ok(list.utility(prices)),
+    }
+}
+
+// How many units the bidder at a place bids for.
+fn total_of_bidder(auction: &Auction, k: usize) -> i64
+    requires { k < length auction.now.bidders }
+    ensures value { result ≡ total_under (cap_at auction.now.caps k) (list_at auction.now.bidders k).bids }
+    ensures range { Lies 4000000 result }
+{
+    let (_, list) = auction.bidder(k);
+    let total = list.total();
+    match auction.cap(k) {
+        Some(cap) => total.min(cap),
+        None => total,
+    }
+}
+
 /// Adds the row of the indirect utility of the bidder at a place, from 0, at the prices.
 pub fn add_utility(
+    alloc: Global,
     page: &mut Page,
     auction: &Auction,
     k: usize,
@@ -60,25 +101,23 @@ pub fn add_utility(
 ) -> Result<(), Memory>
     requires closed { page.old.fields ≡ [] }
     requires place { k < length auction.now.bidders }
-    requires prices { ArePrices (length auction.now.goods) prices.now.items }
-    ensures { OnOk result (page.new ≡ record { ended = page.old.ended ++ line_of (utility_row prices.now.items (bidder_at auction.now.bidders k)); fields = [] }) }
+    requires prices { HaveRoom (length auction.now.goods) prices.now.items }
+    ensures { OnOk result (page.new ≡ record { ended = page.old.ended ++ line_of (utility_row (auction_text auction.now) prices.now.items k); fields = [] }) }
 {
-    let (_, list) = auction.bidder(k);
-    let value = list.utility(prices);
+    let value = utility_of_bidder(alloc, auction, k, prices)?;
     page.text(b"utility")?;
     add_bidder(page, auction, k)?;
     page.number(value)?;
     page.end_row()
 }
 
-/// Adds the row of the bidder at a place, from 0, whose list is convex: its total.
+/// Adds the row of the bidder at a place, from 0, who is convex: how many units it bids for.
 pub fn add_valid(page: &mut Page, auction: &Auction, k: usize) -> Result<(), Memory>
     requires closed { page.old.fields ≡ [] }
     requires place { k < length auction.now.bidders }
-    ensures { OnOk result (page.new ≡ record { ended = page.old.ended ++ line_of (valid_row (bidder_at auction.now.bidders k)); fields = [] }) }
+    ensures { OnOk result (page.new ≡ record { ended = page.old.ended ++ line_of (valid_row (auction_text auction.now) k); fields = [] }) }
 {
-    let (_, list) = auction.bidder(k);
-    let total = list.total();
+    let total = total_of_bidder(auction, k);
     page.text(b"valid")?;
     add_bidder(page, auction, k)?;
     page.number(total)?;

@@ -41,7 +41,7 @@ fn solved(alloc: Global, auction: &Auction) -> Result<Reply, Memory>
 }
 
 /// Reads an auction that nothing follows, and prints its outcome: with status 0 the least clearing prices, each bidder's
-/// share, what is returned, and the tight pairs; with status 1 a refusal of the first bidder whose list isn't convex.
+/// share, what is returned, and the tight pairs; with status 1 a refusal of the first bidder who isn't convex.
 ///
 /// The error is what is wrong first with the text, which has at most 16,777,216 bytes; `Memory` may come in place of any
 /// answer.

@@ -1,5 +1,5 @@
-// The command `trail`: the long steps from the reserves to the least prices, where every list is convex, else a refusal of the
-// first bidder whose list isn't.
+// The command `trail`: the long steps from the reserves to the least prices, where every bidder is convex, else a refusal of the
+// first bidder who isn't.
 ghost use Rattle.std.specs.Prelude.{◌≡◌, ◌<◌, ◌≤◌, ◌++◌, [], length, map, IfOk, IfErr, OnOk};
 ghost use Rattle.mix_text.specs.AuctionTexts.{auction_text};
 ghost use Rattle.mix_text.specs.Pages.{printed};
@@ -42,7 +42,7 @@ fn trail_text(alloc: Global, climb: &Climb) -> Result<Vec<u8>, Memory>
     page.finish()
 }
 
-// The trail of the auction where every list is convex, else a refusal.
+// The trail of the auction where every bidder is convex, else a refusal.
 fn trailed(alloc: Global, auction: &Auction) -> Result<Reply, Memory>
     ensures output { IfOk result (λ reply. IsTrailing (auction_text auction.now) (output_of reply)) }
     ensures status { IfOk result (λ reply. reply.status < 2) }
@@ -61,7 +61,7 @@ fn trailed(alloc: Global, auction: &Auction) -> Result<Reply, Memory>
 }
 
 /// Reads an auction that nothing follows, and prints with status 0 the long steps from its reserves and the prices at their
-/// end where every list is convex, else with status 1 a refusal of the first bidder whose list isn't.
+/// end where every bidder is convex, else with status 1 a refusal of the first bidder who isn't.
 ///
 /// The error is what is wrong first with the text, which has at most 16,777,216 bytes; `Memory` may come in place of any
 /// answer.

@@ -1,6 +1,8 @@
 // The command `utility`: each bidder's indirect utility at given prices.
 ghost use Rattle.std.specs.Prelude.{◌≡◌, ◌≤◌, ◌++◌, [], length, map, Ok, IfOk, IfErr, OnOk};
-ghost use Rattle.mix_num.specs.Ranges.{ArePrices};
+ghost use Rattle.mix_num.specs.Orders.{places};
+ghost use Rattle.mix_num.specs.Ranges.{HaveRoom};
+ghost use Rattle.mix_text.specs.AuctionTexts.{auction_text};
 ghost use Rattle.mix_text.specs.Pages.{printed};
 ghost use Rattle.mix_text.specs.Reading.{IsFromText};
 ghost use Rattle.product_mix.specs.Utilities.{utility_page, utility_row, utility_text};
@@ -11,27 +13,32 @@ use mix_text::{Auction, Page, TextError, read_auction, read_price};
 use std::alloc::Global;
 
 // Adds the rows of all bidders in order.
-fn add_utilities(page: &mut Page, auction: &Auction, prices: &Prices) -> Result<(), Memory>
+fn add_utilities(
+    alloc: Global,
+    page: &mut Page,
+    auction: &Auction,
+    prices: &Prices,
+) -> Result<(), Memory>
     requires closed { page.old.fields ≡ [] }
-    requires prices { ArePrices (length auction.now.goods) prices.now.items }
+    requires prices { HaveRoom (length auction.now.goods) prices.now.items }
     ensures { OnOk result (page.new ≡ record {
-      ended = page.old.ended ++ printed (map (utility_row prices.now.items) auction.now.bidders);
+      ended = page.old.ended ++ printed (map (utility_row (auction_text auction.now) prices.now.items) (places (length auction.now.bidders)));
       fields = [];
     }) }
 {
     for k in 0..auction.count() {
-        add_utility(page, auction, k, prices)?;
+        add_utility(alloc, page, auction, k, prices)?;
     }
     Ok(())
 }
 
 // The rows of all bidders, and the last row.
 fn utilities(alloc: Global, auction: &Auction, prices: &Prices) -> Result<Vec<u8>, Memory>
-    requires { ArePrices (length auction.now.goods) prices.now.items }
-    ensures { IfOk result (λ bytes. bytes.items ≡ utility_page auction.now.bidders prices.now.items) }
+    requires { HaveRoom (length auction.now.goods) prices.now.items }
+    ensures { IfOk result (λ bytes. bytes.items ≡ utility_page (auction_text auction.now) prices.now.items) }
 {
     let mut page = Page::new(alloc);
-    add_utilities(&mut page, auction, prices)?;
+    add_utilities(alloc, &mut page, auction, prices)?;
     add_end(&mut page)?;
     page.finish()
 }

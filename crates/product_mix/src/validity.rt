@@ -1,5 +1,6 @@
-// The command `validate`: each bidder's total where every list is convex, else a refusal of the first bidder whose list isn't.
+// The command `validate`: how many units each bidder bids for where all are convex, else a refusal of the first who isn't.
 ghost use Rattle.std.specs.Prelude.{◌≡◌, ◌<◌, ◌≤◌, ◌++◌, [], length, map, IfOk, IfErr, OnOk};
+ghost use Rattle.mix_num.specs.Orders.{places};
 ghost use Rattle.mix_text.specs.AuctionTexts.{auction_text};
 ghost use Rattle.mix_text.specs.Pages.{printed};
 ghost use Rattle.mix_text.specs.Reading.{IsFromText};
@@ -21,7 +22,7 @@ const VALID: u8 = 0;
 // Adds the rows of all bidders in order.
 fn add_all_valid(page: &mut Page, auction: &Auction) -> Result<(), Memory>
     requires { page.old.fields ≡ [] }
-    ensures { OnOk result (page.new ≡ record { ended = page.old.ended ++ printed (map valid_row auction.now.bidders); fields = [] }) }
+    ensures { OnOk result (page.new ≡ record { ended = page.old.ended ++ printed (map (valid_row (auction_text auction.now)) (places (length auction.now.bidders))); fields = [] }) }
 {
     for k in 0..auction.count() {
         add_valid(page, auction, k)?;
@@ -31,7 +32,7 @@ fn add_all_valid(page: &mut Page, auction: &Auction) -> Result<(), Memory>
 
 // The rows of all bidders, and the last row.
 fn valid_text(alloc: Global, auction: &Auction) -> Result<Vec<u8>, Memory>
-    ensures { IfOk result (λ bytes. bytes.items ≡ valid_page auction.now.bidders) }
+    ensures { IfOk result (λ bytes. bytes.items ≡ valid_page (auction_text auction.now)) }
 {
     let mut page = Page::new(alloc);
     add_all_valid(&mut page, auction)?;
@@ -39,7 +40,7 @@ fn valid_text(alloc: Global, auction: &Auction) -> Result<Vec<u8>, Memory>
     page.finish()
 }
 
-// The totals of the bidders where every list is convex, else a refusal.
+// The totals of the bidders where all are convex, else a refusal.
 fn validity(alloc: Global, auction: &Auction) -> Result<Reply, Memory>
     ensures output { IfOk result (λ reply. IsValidity (auction_text auction.now) (output_of reply)) }
     ensures status { IfOk result (λ reply. reply.status < 2) }
@@ -53,8 +54,8 @@ fn validity(alloc: Global, auction: &Auction) -> Result<Reply, Memory>
     }
 }
 
-/// Reads an auction that nothing follows, and prints with status 0 each bidder's total where every list is convex, else
-/// with status 1 a refusal of the first bidder whose list isn't.
+/// Reads an auction that nothing follows, and prints with status 0 how many units each bidder bids for where all are convex,
+/// else with status 1 a refusal of the first who isn't. A cap counts where it is less than the list's total.
 ///
 /// The error is what is wrong first with the text, which has at most 16,777,216 bytes; `Memory` may come in place of any
 /// answer.
