@@ -126,19 +126,19 @@ upper_bits a true false = omega (arith, ints, clamps)
 upper_bits a false true = omega (arith, ints, clamps)
 upper_bits a false false = omega (arith, ints, clamps)
 
-both_left : (a b : Bool) → cond a b false ≡ true → a ≡ true
+pub both_left : (a b : Bool) → cond a b false ≡ true → a ≡ true
 both_left true b e = refl
 both_left false b e = absurd (false≢true e)
 
-either_cases : (a b : Bool) → cond a true b ≡ true → (a ≡ true) ⊎ (b ≡ true)
+pub either_cases : (a b : Bool) → cond a true b ≡ true → (a ≡ true) ⊎ (b ≡ true)
 either_cases true b e = inl refl
 either_cases false b e = inr e
 
-either_false : (a b : Bool) → a ≡ false → b ≡ false → cond a true b ≡ false
+pub either_false : (a b : Bool) → a ≡ false → b ≡ false → cond a true b ≡ false
 either_false true b e g = absurd (false≢true (sym e))
 either_false false b e g = g
 
-both_false : (a b : Bool) → a ≡ false → cond a b false ≡ false
+pub both_false : (a b : Bool) → a ≡ false → cond a b false ≡ false
 both_false true b e = absurd (false≢true (sym e))
 both_false false b e = refl
 
@@ -178,7 +178,7 @@ slope_down-none {n} {l} c x =
     omega (arith, ints)
 
 -- two largest falls are one
-alike : (a b : Bool) → (a ≡ true → b ≡ true) → (b ≡ true → a ≡ true) → a ≡ b
+pub alike : (a b : Bool) → (a ≡ true → b ≡ true) → (b ≡ true → a ≡ true) → a ≡ b
 alike true b h k = sym (h refl)
 alike false true h k = k refl
 alike false false h k = refl

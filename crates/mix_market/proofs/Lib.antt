@@ -10,6 +10,7 @@ pub mod Climbs
 pub mod Rooms
 pub mod Bounds
 pub mod Gaps
+pub mod Units
 pub mod Rises
 pub mod LargestSets
 pub mod LargestFalls

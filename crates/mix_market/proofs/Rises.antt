@@ -35,21 +35,21 @@ is_lesser : (b c : ℤ) → int_min b c ≡ b → b ≤ℤ c
 is_lesser b c e = omega (arith, ints, clamps)
 
 -- one step: u, p and whether the choice rises, and whether u is still farthest above it there
-nearer_at : (u p m : ℤ) (s : Bool) → (u -ℤ p) ≤ℤ m → (u -ℤ (p +ℤ bit s)) ≤ℤ m
+pub nearer_at : (u p m : ℤ) (s : Bool) → (u -ℤ p) ≤ℤ m → (u -ℤ (p +ℤ bit s)) ≤ℤ m
 nearer_at u p m true h = omega (arith, ints)
 nearer_at u p m false h = omega (arith, ints)
 
-not_null : (u p : ℤ) (h : ℕ) (s f : Bool) → u ≡ pos 0 → p ≡ pos 0 → s ≡ false → (IsTrue f ↔ (u -ℤ (p +ℤ bit s) ≡ pos (suc h))) → f ≡ false
+pub not_null : (u p : ℤ) (h : ℕ) (s f : Bool) → u ≡ pos 0 → p ≡ pos 0 → s ≡ false → (IsTrue f ↔ (u -ℤ (p +ℤ bit s) ≡ pos (suc h))) → f ≡ false
 not_null u p h s false a b e g = refl
 not_null u p h true true a b e g = absurd (false≢true (sym e))
 not_null u p h false true a b e g = let q = g.0 refl in absurd (omega (arith, ints))
 
-stays_over : (a u p : ℤ) (h : ℕ) (s f : Bool) → a ≤ℤ u → a ≤ℤ p → (IsTrue f ↔ (u -ℤ (p +ℤ bit s) ≡ pos (suc h))) → a ≤ℤ (u -ℤ bit f)
+pub stays_over : (a u p : ℤ) (h : ℕ) (s f : Bool) → a ≤ℤ u → a ≤ℤ p → (IsTrue f ↔ (u -ℤ (p +ℤ bit s) ≡ pos (suc h))) → a ≤ℤ (u -ℤ bit f)
 stays_over a u p h true true l k g = let q = g.0 refl in omega (arith, ints)
 stays_over a u p h false true l k g = let q = g.0 refl in omega (arith, ints)
 stays_over a u p h s false l k g = omega (arith, ints)
 
-joined_at : (u p : ℤ) (h : ℕ) (s f : Bool) → (u -ℤ p) ≤ℤ pos (suc h) → (IsTrue f ↔ (u -ℤ (p +ℤ bit s) ≡ pos (suc h))) → (p +ℤ bit s) +ℤ bit f ≡ p +ℤ bit (cond s true f)
+pub joined_at : (u p : ℤ) (h : ℕ) (s f : Bool) → (u -ℤ p) ≤ℤ pos (suc h) → (IsTrue f ↔ (u -ℤ (p +ℤ bit s) ≡ pos (suc h))) → (p +ℤ bit s) +ℤ bit f ≡ p +ℤ bit (cond s true f)
 joined_at u p h true true l g = let q = g.0 refl in absurd (omega (arith, ints))
 joined_at u p h true false l g = omega (arith, ints)
 joined_at u p h false f l g = omega (arith, ints)
@@ -58,15 +58,15 @@ not_lowered : (u : ℤ) (f : Bool) → u ≤ℤ (u -ℤ bit f) → f ≡ false
 not_lowered u true h = absurd (omega (arith, ints))
 not_lowered u false h = refl
 
-not_raised : (u p v : ℤ) (s : Bool) → (u -ℤ p) ≤ℤ v → v ≤ℤ pos 0 → (p +ℤ bit s) ≤ℤ u → s ≡ false
+pub not_raised : (u p v : ℤ) (s : Bool) → (u -ℤ p) ≤ℤ v → v ≤ℤ pos 0 → (p +ℤ bit s) ≤ℤ u → s ≡ false
 not_raised u p v true a b e = absurd (omega (arith, ints))
 not_raised u p v false a b e = refl
 
-null_kept : (a : ℤ) (s : Bool) → a ≡ pos 0 → s ≡ false → a +ℤ bit s ≡ pos 0
+pub null_kept : (a : ℤ) (s : Bool) → a ≡ pos 0 → s ≡ false → a +ℤ bit s ≡ pos 0
 null_kept a true e g = absurd (false≢true (sym g))
 null_kept a false e g = omega (arith, ints)
 
-null_kept_down : (a : ℤ) (s : Bool) → a ≡ pos 0 → s ≡ false → a -ℤ bit s ≡ pos 0
+pub null_kept_down : (a : ℤ) (s : Bool) → a ≡ pos 0 → s ≡ false → a -ℤ bit s ≡ pos 0
 null_kept_down a true e g = absurd (false≢true (sym g))
 null_kept_down a false e g = omega (arith, ints)
 

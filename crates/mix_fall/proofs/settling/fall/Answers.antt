@@ -5,7 +5,7 @@ use Rattle.mix_market.specs.Markets.{goods_of}
 use Rattle.mix_market.specs.Gaps.{greatest_gap}
 use Rattle.mix_market.proofs.MarketFacts.{market_keeps}
 use Rattle.mix_market.proofs.Rooms.{depth-lowered, depth-same, some_good, not_empty, nothing_in}
-use Rattle.mix_fall.proofs.Units.{lowered_within, may_enter, widened}
+use Rattle.mix_market.proofs.Units.{lowered_within, may_enter, widened}
 use Rattle.mix_market.proofs.Gaps.{gap_covers}
 use Rattle.mix_market.proofs.LargestFalls.{fall_above, fall_over, fall_counts, fall_ends, same_above}
 use Rattle.mix_fall.proofs.settling.fall.Goals as goal

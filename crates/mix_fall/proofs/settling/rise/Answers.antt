@@ -10,7 +10,7 @@ use Rattle.mix_market.proofs.MarketFacts.{market_keeps}
 use Rattle.mix_market.proofs.Climbs.{start_best, step_best, best_same, end_least}
 use Rattle.mix_market.proofs.Rooms.{room-raised, room-same, some_good, not_empty}
 use Rattle.mix_market.proofs.Bounds.{rises_low}
-use Rattle.mix_fall.proofs.Units.{raised_within}
+use Rattle.mix_market.proofs.Units.{raised_within}
 use Rattle.mix_market.proofs.Gaps.{gap_covers}
 use Rattle.mix_market.proofs.Rises.{step_counts}
 use Rattle.mix_fall.proofs.settling.rise.Goals as goal

@@ -1,0 +1,3 @@
+mod Ceilings
+mod HighPoints
+mod LargestRises
