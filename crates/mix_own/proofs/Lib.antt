@@ -1,0 +1,4 @@
+pub mod GrossSupplies
+pub mod NetAmounts
+pub mod TradesOf
+pub mod TradeReceipts

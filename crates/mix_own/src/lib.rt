@@ -1,0 +1,17 @@
+//! Bidders who own units: what they own is offered beside the supply, and each trades the difference between what it
+//! gets and what it owns.
+#![tactic(auto)]
+
+mod offering;
+mod owned;
+pub mod theorems;
+mod trade;
+mod trading;
+
+pub use offering::gross;
+pub use owned::Owned;
+pub use trade::{Trade, TradeList};
+pub use trading::trades;
+
+#[cfg(test)]
+mod tests;
