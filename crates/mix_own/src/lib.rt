@@ -3,15 +3,20 @@
 #![tactic(auto)]
 
 mod offering;
+mod own_reading;
 mod owned;
+mod reading;
 pub mod theorems;
 mod trade;
 mod trading;
 
 pub use offering::gross;
 pub use owned::Owned;
+pub use reading::{RangeError, read_range};
 pub use trade::{Trade, TradeList};
 pub use trading::trades;
 
+#[cfg(test)]
+mod reading_tests;
 #[cfg(test)]
 mod tests;

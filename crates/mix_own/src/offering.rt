@@ -10,8 +10,8 @@ use mix_num::{Bundle, Memory};
 use mix_text::Auction;
 use std::alloc::Global;
 
-// What all bidders own of the good at a place, from 0: at most 1,000,000 units.
-fn together(owned: &Owned, i: usize) -> i64
+/// What all bidders own of the good at a place, from 0: at most 1,000,000 units.
+pub(crate) fn together(owned: &Owned, i: usize) -> i64
     requires amounts { All (λ bundle. (i < length bundle) × All IsAmount bundle) owned.now }
     requires most { owned_of_good owned.now i ≤ℤ pos 1000000 }
     ensures value { result ≡ owned_of_good owned.now i }
