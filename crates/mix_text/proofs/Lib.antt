@@ -23,3 +23,7 @@ pub mod FewCells
 pub mod NamesSoFar
 pub mod Upgrades
 pub mod OwnPlaces
+pub mod OrdersWithout
+pub mod BiddersWithout
+mod ChangedInPlace
+pub mod ChangedAuctions

@@ -56,7 +56,7 @@ among_snoc y x (z ∷ zs) h e = let s = not_alike (bytes_eq y z) (is_among y zs)
 pub turned : (x y : List ℕ) → bytes_eq x y ≡ false → bytes_eq y x ≡ false
 turned x y h = false_from_ne_true (bytes_eq y x) (λ e. true≢false (sym (bytes_eq_refl x) ∙ ap (bytes_eq x) (sym (same_bytes y x e)) ∙ h))
 
-unlike_snoc : (names : List (List ℕ)) (x : List ℕ) → Unlike names → is_among x names ≡ false → Unlike (names ++ (x ∷ []))
+pub unlike_snoc : (names : List (List ℕ)) (x : List ℕ) → Unlike names → is_among x names ≡ false → Unlike (names ++ (x ∷ []))
 unlike_snoc [] x u h = (refl, tt)
 unlike_snoc (y ∷ ys) x u h = let s = not_alike (bytes_eq x y) (is_among x ys) h in (among_snoc y x ys u.0 (turned x y s.0), unlike_snoc ys x u.1 s.1)
 
@@ -118,14 +118,14 @@ pub record AreFew (limits : Limits) (n : ℕ) (bids : List NamedBid) : Type 0 wh
   pub names : length (different (names_of bids)) ≤ limits.bidders
   pub under : (m : List ℕ) → BidsMeet limits (list_under n m bids)
 
-not_at : (a b : ℕ) → nat_le a b ≡ false → b < a
+pub not_at : (a b : ℕ) → nat_le a b ≡ false → b < a
 not_at a b h = grind (arith, nat_tests)
 
 -- a list whose one bid more passes no limit: it has room for a bid, and for a negative one, and stays within the cells
-record HasRoom (limits : Limits) (list : Book) (bid : Bid) : Type 0 where
-  bids : length list.bids < limits.bids
-  negatives : is_negative bid ≡ true → is_past limits.negatives (suc (count_by is_negative list.bids)) ≡ false
-  cells : is_past limits.cells (cells (with_bid list bid)) ≡ false
+pub record HasRoom (limits : Limits) (list : Book) (bid : Bid) : Type 0 where
+  pub bids : length list.bids < limits.bids
+  pub negatives : is_negative bid ≡ true → is_past limits.negatives (suc (count_by is_negative list.bids)) ≡ false
+  pub cells : is_past limits.cells (cells (with_bid list bid)) ≡ false
 
 -- the tests of the limits, all of which failed
 tests_failed : (long negative full many : Bool) (v u w : What) → cond long (Some v) (cond (negative && full) (Some u) (cond many (Some w) None)) ≡ None
@@ -137,7 +137,7 @@ tests_failed false true false false v u w e = (refl, λ _. refl, refl)
 tests_failed false false full true v u w e = cc e
 tests_failed false false full false v u w e = (refl, λ t. absurd (true≢false (sym t)), refl)
 
-has_room : (limits : Limits) (list : Book) (bid : Bid) → list_limit_of limits list bid ≡ None → HasRoom limits list bid
+pub has_room : (limits : Limits) (list : Book) (bid : Bid) → list_limit_of limits list bid ≡ None → HasRoom limits list bid
 unfolding list_limit_of
 has_room limits list bid h =
     let t = tests_failed (nat_le limits.bids (length list.bids)) (is_negative bid) (is_past limits.negatives (suc (count_by is_negative list.bids)))

@@ -108,9 +108,9 @@ is_order m order t =
 -- ---- an order that is read
 
 -- places that are different and below m
-record AreServed (m : ℕ) (order : List ℕ) : Type 0 where
-  below : (i : ℕ) → i < length order → place_at order i < m
-  apart : (i j : ℕ) → i < j → j < length order → place_at order i ≢ place_at order j
+pub record AreServed (m : ℕ) (order : List ℕ) : Type 0 where
+  pub below : (i : ℕ) → i < length order → place_at order i < m
+  pub apart : (i j : ℕ) → i < j → j < length order → place_at order i ≢ place_at order j
 
 -- a place that isn't among these is none of them
 not_served : (k : ℕ) (order : List ℕ) → is_served k order ≡ false → (i : ℕ) → i < length order → place_at order i ≢ k
@@ -124,7 +124,7 @@ not_served k (j ∷ order) h (suc i) l = elim (cases_Bool (j == k)) [
   | inr f ↦ not_served k order (rw f at h) i (omega (arith, l))
 ]
 
-one_more : (m k : ℕ) (order : List ℕ) → AreServed m order → k < m → is_served k order ≡ false → AreServed m (order ++ k ∷ [])
+pub one_more : (m k : ℕ) (order : List ℕ) → AreServed m order → k < m → is_served k order ≡ false → AreServed m (order ++ k ∷ [])
 one_more m k order a l new =
     let n = length-append order (k ∷ []) in
     record {
@@ -173,7 +173,7 @@ served_ok bidders seen (field ∷ rest) order a e =
         at (Some j) e = let same : j ≡ k = cc e in ap Some same
 
 -- different places below m, as many as m
-all_served : (m : ℕ) (order : List ℕ) → AreServed m order → length order ≡ m → IsTieOrder m order
+pub all_served : (m : ℕ) (order : List ℕ) → AreServed m order → length order ≡ m → IsTieOrder m order
 all_served m order a e = record {
   size = e;
   within = λ i l. a.below i (omega (arith, e, l));

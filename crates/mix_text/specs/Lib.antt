@@ -10,3 +10,4 @@ pub mod Reading
 pub mod Limits
 pub mod Orders
 pub mod Caps
+pub mod Changes

@@ -1,7 +1,8 @@
 // The bidders by name, in order of first appearance.
-ghost use Rattle.std.specs.Prelude.{◌≡◌, ◌<◌, ◌∷◌, ◌++◌, [], None, length, map, IfOk, IfSome, OnOk, OnErr};
+ghost use Rattle.std.specs.Prelude.{◌≡◌, ◌<◌, ◌≤◌, ◌∷◌, ◌++◌, [], None, length, map, remove, IfOk, IfSome, OnOk, OnErr};
 ghost use Rattle.mix_bids.specs.Bids.{IsBid};
 ghost use Rattle.mix_text.specs.Bidders.{list_at, name_at, place_of, with_bid_at};
+ghost use Rattle.mix_text.specs.Changes.{one_bid};
 ghost use Rattle.mix_text.specs.Formats.{AreLimits};
 ghost use Rattle.mix_text.specs.Names.{AreNames};
 ghost use Rattle.mix_text.specs.Reading.{list_limit_of};
@@ -107,6 +108,36 @@ impl Bidders {
         ensures added { IfOk result (λ limit. limit ≡ None → self.new ≡ with_bid_at self.old k bid) }
     {
         push_within(limits, &mut self.named[k], bid)
+    }
+
+    // Adds a bid at the end of the list of the bidder at a place, from 0. Where memory is wanting, the bidders stay as they were.
+    pub(crate) fn push(&mut self, k: usize, bid: Bid) -> Result<(), Memory>
+        requires place { k < length self.old }
+        requires bid { IsBid (list_at self.old k).goods bid }
+        requires room { length (list_at self.old k).bids < 400 }
+        ensures ok { OnOk result (self.new ≡ with_bid_at self.old k bid) }
+        ensures err { OnErr result (self.new ≡ self.old) }
+    {
+        self.named[k].push(bid)
+    }
+
+    // Takes out the bidder at a place, from 0, which takes no memory. Those behind it stand one place nearer the front.
+    pub(crate) fn remove(&mut self, k: usize)
+        requires { k < length self.old }
+        ensures { self.new ≡ remove self.old k }
+    {
+        let _ = self.named.shift_remove_index(k);
+    }
+
+    // The list of one bid over so many goods, where the bidders have their memory.
+    pub(crate) fn list_of(&self, goods: usize, bid: Bid) -> Result<BidList, Memory>
+        requires goods { (1 ≤ goods) × (goods ≤ 8) }
+        requires bid { IsBid goods bid }
+        ensures { IfOk result (λ list. list ≡ one_bid goods bid) }
+    {
+        let mut list = BidList::new(*self.named.allocator(), goods);
+        list.push(bid)?;
+        Ok(list)
     }
 }
 

@@ -1,5 +1,5 @@
 // The caps of the bidders.
-ghost use Rattle.std.specs.Prelude.{◌≡◌, ◌<◌, ◌∷◌, ◌++◌, [], length, IfOk, OnErr, OnOk};
+ghost use Rattle.std.specs.Prelude.{◌≡◌, ◌<◌, ◌-◌, ◌∷◌, ◌++◌, [], length, remove, take, IfOk, OnErr, OnOk};
 ghost use Rattle.mix_text.specs.Caps.{cap_at, no_caps, with_cap};
 
 use mix_num::Memory;
@@ -55,7 +55,7 @@ impl Caps {
     }
 
     // Adds the cap of a last bidder, or that it has none. Where memory is wanting, the caps stay as they were.
-    fn push(&mut self, cap: Option<i64>) -> Result<(), Memory>
+    pub(crate) fn push(&mut self, cap: Option<i64>) -> Result<(), Memory>
         ensures ok { OnOk result (self.new ≡ self.old ++ cap ∷ []) }
         ensures err { OnErr result (self.new ≡ self.old) }
     {
@@ -63,6 +63,21 @@ impl Caps {
             return Err(Memory);
         };
         Ok(())
+    }
+
+    // Takes out the cap of the last bidder.
+    pub(crate) fn pop(&mut self)
+        ensures { self.new ≡ take (length self.old - 1) self.old }
+    {
+        let _ = self.caps.pop();
+    }
+
+    // Takes out the cap of the bidder at a place, from 0.
+    pub(crate) fn remove(&mut self, k: usize)
+        requires { k < length self.old }
+        ensures { self.new ≡ remove self.old k }
+    {
+        let _ = self.caps.remove(k);
     }
 
     // Equal caps.

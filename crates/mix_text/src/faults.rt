@@ -45,6 +45,8 @@ pub enum What {
     Negatives,
     /// The cells of one bidder's list.
     Cells,
+    /// The outcomes that one session asks for.
+    Clears,
 }
 
 /// A row that is wrong.

@@ -6,6 +6,7 @@ mod bid_limits;
 mod bidders;
 mod cap_reading;
 mod caps;
+mod changes;
 mod copies;
 mod faults;
 mod formats;

@@ -1,10 +1,28 @@
 // The order in which the bidders are served.
-ghost use Rattle.std.specs.Prelude.{◌≡◌, ◌<◌, ◌++◌, ◌∷◌, [], length, IfOk, OnErr, OnOk};
+ghost use Rattle.std.specs.Prelude.{◌≡◌, ◌<◌, ◌-◌, ◌++◌, ◌∷◌, [], length, map, take, IfOk, OnErr, OnOk};
 ghost use Rattle.mix_num.specs.Orders.{place_at, places as places_of};
+ghost use Rattle.mix_text.specs.Changes.{order_without, place_without};
 
 use mix_num::Memory;
 use std::alloc::Global;
 use std::marker::Model;
+
+// The place of a bidder where the one at another has left.
+fn lowered(place: usize, left: usize) -> usize
+    ensures { result ≡ place_without left place }
+{
+    if place > left { place - 1 } else { place }
+}
+
+// Where the bidder at a place has left, those behind it stand one place nearer the front.
+#[tactic(auto, using(crate::proofs::ChangedInPlace::change_next, crate::proofs::ChangedInPlace::changed_all))]
+fn close_gap(places: &mut [usize], left: usize)
+    ensures { places.new ≡ map (place_without left) places.old }
+{
+    for place in places.iter_mut() {
+        *place = lowered(*place, left);
+    }
+}
 
 /// A tie order: the places of the bidders, from 0, in the order in which they are served.
 #[derive(Drop)]
@@ -50,6 +68,21 @@ impl Order {
             return Err(Memory);
         };
         Ok(())
+    }
+
+    // Takes out the bidder who is served last.
+    pub(crate) fn pop(&mut self)
+        ensures { self.new ≡ take (length self.old - 1) self.old }
+    {
+        let _ = self.places.pop();
+    }
+
+    // Takes out the bidder at a place, and lowers the places behind it. The others are served in the order in which they were.
+    pub(crate) fn remove(&mut self, place: usize)
+        ensures { self.new ≡ order_without place self.old }
+    {
+        self.places.retain(|other| *other != place);
+        close_gap(&mut self.places, place);
     }
 
     // An equal order.
