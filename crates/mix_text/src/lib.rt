@@ -7,6 +7,8 @@ mod bidders;
 mod cap_reading;
 mod caps;
 mod changes;
+#[cfg(test)]
+mod changes_tests;
 mod copies;
 mod faults;
 mod formats;
