@@ -1,39 +1,37 @@
 -- An auction to which a bid is added, or which a bidder leaves, is an auction.
-use Rattle.std.proofs.Common.{◌≡◌, ◌≢◌, ◌<◌, ◌≤◌, ◌≤ℤ◌, ◌+◌, ◌==◌, ℕ, zero, suc, ℤ, pos, List, [], ◌∷◌, ◌++◌, length, map, sym, ◌∙◌, ap, arith, refl, subst, Bool, true, false, true≢false, inl, inr, nat_lt, cond, Option, Some, None, int_lt}
+use Rattle.std.proofs.Common.{◌≡◌, ◌<◌, ◌≤◌, ◌+◌, ℕ, suc, ℤ, List, [], ◌∷◌, ◌++◌, length, map, sym, ◌∙◌, ap, arith, refl, subst, Bool, true, false, cond, Option, Some, None}
 use Rattle.std.specs.Prelude.{nat_le, remove}
 use Rattle.std.specs.Str.{bytes_eq}
 use Rattle.std.proofs.Math.Seq.{map-set_same}
-use Rattle.std.proofs.lemmas.Bool.{cases_Bool}
-use Rattle.std.proofs.lemmas.Bool.Decides.{nat_tests}
-use Rattle.std.proofs.lemmas.Int.{ints}
-use Rattle.std.proofs.lemmas.List.{get_or-set_other, get_or-set_same, get_or_append_left, get_or_past, length-append, length-map, length-set, map-append, replicate-append-replicate}
+use Rattle.std.proofs.lemmas.List.{get_or-set_same, length-append, length-map, length-set, map-append, replicate-append-replicate}
 use Rattle.std.proofs.lemmas.List.Edits.{length-remove}
 use Rattle.std.proofs.lemmas.List.Elements.{All-cons, All-nil, All-push, All-set}
 use Rattle.std.proofs.lemmas.List.Quantifiers.{position-Some}
 use Rattle.indexmap.proofs.SetLemmas.{map-remove}
-use Rattle.mix_num.specs.Orders.{place_at, places}
+use Rattle.mix_num.specs.Orders.{places}
 use Rattle.mix_bids.specs.Bids.{Book, IsBid}
-use Rattle.mix_bids.specs.Caps.{ArePositive, IsPositive}
 use Rattle.mix_bids.specs.declared.bid.Bid.{Bid}
 use Rattle.mix_text.specs.Auctions.{AuctionText, IsAuction, IsBook}
-use Rattle.mix_text.specs.Bidders.{Named, list_at, name_at, place_of, with_bid, with_bid_at}
-use Rattle.mix_text.specs.Caps.{AreCaps, cap_at, no_caps}
+use Rattle.mix_text.specs.Bidders.{Named, list_at, name_at, place_of, with_bid}
+use Rattle.mix_text.specs.Caps.{cap_at, no_caps}
 use Rattle.mix_text.specs.Changes.{cap_of_name, cap_under, limit_of_added, limit_under, no_bids, one_bid, order_without, with_added, with_bid_under, without, without_at, without_found}
 use Rattle.mix_text.specs.Formats.{limits_of}
 use Rattle.mix_text.specs.Names.{AreNames, is_among}
-use Rattle.mix_text.specs.Orders.{IsTieOrder, is_served}
+use Rattle.mix_text.specs.Orders.{IsTieOrder}
 use Rattle.mix_text.specs.Reading.{is_negative, list_limit_of}
 use Rattle.mix_text.specs.Spelling.{is_name}
 use Rattle.mix_text.specs.declared.faults.What.{What}
 use Rattle.mix_text.specs.declared.faults.What.TheVariants as what
 use Rattle.mix_text.proofs.BiddersWithout.{all_left, caps_left, names_left, no_caps_left}
+use Rattle.mix_text.proofs.CapsOfMore.{caps_of_more, caps_with_one}
 use Rattle.mix_text.proofs.Entries.{list_any-absent, position-map}
 use Rattle.mix_text.proofs.FormatLimits.{limits_are}
 use Rattle.mix_text.proofs.Gathering.{different_same}
+use Rattle.mix_text.proofs.OrdersWithOne.{served_last}
 use Rattle.mix_text.proofs.OrdersWithout.{order_left, places_without}
 use Rattle.mix_text.proofs.OwnPlaces.{unlike_names}
 use Rattle.mix_text.proofs.SoundAuctions.{has_room, not_at, unlike_snoc}
-use Rattle.mix_text.proofs.TieOrders.{AreServed, all_served, one_more, places_more}
+use Rattle.mix_text.proofs.TieOrders.{places_more}
 
 abbrev nobody : List ℕ × Book
 nobody = ([], record { goods = 0; bids = [] })
@@ -76,13 +74,6 @@ without_is a name s = at (place_of name a.bidders) refl
 
 -- ---- a bid is added
 
--- a bid of no negative weight is positive, as no weight is 0
-positive_bid : (n : ℕ) (bid : Bid) → IsBid n bid → is_negative bid ≡ false → IsPositive bid
-positive_bid n bid is f = let some = is.some in weight bid.weight some f
-  where
-    weight : (w : ℤ) → w ≢ pos 0 → int_lt w (pos 0) ≡ false → pos 1 ≤ℤ w
-    weight w some f = grind (arith, ints, some, f)
-
 -- a list that may have one bid more has room for it
 pub list_has_room : (a : AuctionText) (name : List ℕ) (bid : Bid) (k : ℕ) → place_of name a.bidders ≡ Some k → IsAuction (with_added a name bid) → length (list_at a.bidders k).bids < 400
 list_has_room a name bid k e s =
@@ -94,31 +85,6 @@ list_has_room a name bid k e s =
     let few = book.few in
     let count = length-append (list_at a.bidders k).bids (bid ∷ []) in
     omega (arith, few, count)
-
--- caps where one of their bidders has a bid more, which is positive where the bidder has a cap
-caps_of_more : (n : ℕ) (bidders : Named) (caps : List (Option ℤ)) (bid : Bid) (k : ℕ) → k < length bidders → IsBid n bid → (is_negative bid ≡ true → cap_at caps k ≡ None) → AreCaps bidders caps
-    → AreCaps (with_bid_at bidders k bid) caps
-caps_of_more n bidders caps bid k below is apart are =
-    let entry : List ℕ × Book = (name_at bidders k, with_bid (list_at bidders k) bid) in
-    record {
-      size = are.size ∙ sym (length-set bidders k entry);
-      range = are.range;
-      positive = λ j cap e. elim (cases_Bool (j == k)) [
-        | inl t ↦ (
-            let same : j ≡ k = grind (arith, nat_tests) in
-            let here : cap_at caps k ≡ Some cap = ap (cap_at caps) (sym same) ∙ e in
-            let longer = All-push IsPositive (list_at bidders k).bids bid (are.positive k cap here) (positive_bid n bid is (not_negative (is_negative bid) cap apart here)) in
-            subst (λ (i : ℕ). ArePositive (list_at (with_bid_at bidders k bid) i).bids) (sym same)
-            (subst (λ (bidder : List ℕ × Book). ArePositive bidder.1.bids) (sym (get_or-set_same bidders k entry nobody below)) longer))
-        | inr f ↦ (
-            let other : j ≢ k = (λ q. let t : (j == k) ≡ true = grind (arith, nat_tests) in true≢false (sym t ∙ f)) in
-            subst (λ (bidder : List ℕ × Book). ArePositive bidder.1.bids) (sym (get_or-set_other bidders k j entry nobody other)) (are.positive j cap e))
-      ];
-    }
-  where
-    not_negative : (t : Bool) (cap : ℤ) → (t ≡ true → cap_at caps k ≡ None) → cap_at caps k ≡ Some cap → t ≡ false
-    not_negative false most apart e = refl
-    not_negative true most apart e = absurd (let q = sym (apart refl) ∙ e in cc q)
 
 -- a bid more of a bidder who is there
 more_there : (a : AuctionText) (name : List ℕ) (bid : Bid) (k : ℕ) → IsAuction a → IsBid (length a.goods) bid → k < length a.bidders → (is_negative bid ≡ true → cap_at a.caps k ≡ None)
@@ -144,44 +110,6 @@ more_there a name bid k s is below apart room =
       first_format = λ e. s.first_format e ∙ ap places (sym size);
       uncapped = λ e. s.uncapped e ∙ ap no_caps (sym size);
     }
-
--- one bidder more, who is served last
-served_last : (m : ℕ) (order : List ℕ) → IsTieOrder m order → IsTieOrder (m + 1) (order ++ m ∷ [])
-served_last m order t =
-    let size = t.size in
-    let before : AreServed (m + 1) order = record {
-      below = λ i l. let w = t.within i (omega (arith, size, l)) in omega (arith, w);
-      apart = λ i j h l e. let same = t.once i j (omega (arith, size, h, l)) (omega (arith, size, l)) e in omega (arith, same, h);
-    } in
-    all_served (m + 1) (order ++ m ∷ []) (one_more (m + 1) m order before (omega arith) (not_there order (λ i l. let w = t.within i (omega (arith, size, l)) in w))) (let count = length-append order (m ∷ []) in omega (arith, count, size))
-  where
-    not_there : (order : List ℕ) → ((i : ℕ) → i < length order → place_at order i < m) → is_served m order ≡ false
-    not_there [] h = refl
-    not_there (j ∷ order) h = let first = h 0 (omega arith) in let f : (j == m) ≡ false = grind (arith, nat_tests, first) in rw f (not_there order (λ i l. h (suc i) (omega (arith, l))))
-
--- a cap that is there with one bidder more, who has none, was there before
-cap_before : (caps : List (Option ℤ)) (k : ℕ) → cap_at (caps ++ None ∷ []) k ≡ cap_at caps k
-cap_before [] zero = refl
-cap_before [] (suc k) = refl
-cap_before (c ∷ caps) zero = refl
-cap_before (c ∷ caps) (suc k) = cap_before caps k
-
-capped_below : (caps : List (Option ℤ)) (k : ℕ) (cap : ℤ) → cap_at caps k ≡ Some cap → k < length caps
-capped_below caps k cap e = elim (cases_Bool (nat_lt k (length caps))) [
-  | inl t ↦ grind (arith, nat_tests)
-  | inr f ↦ (let past : length caps ≤ k = grind (arith, nat_tests) in absurd (let q = sym (get_or_past caps k None past) ∙ e in cc q))
-]
-
-caps_with_one : (bidders : Named) (caps : List (Option ℤ)) (bidder : List ℕ × Book) → AreCaps bidders caps → AreCaps (bidders ++ bidder ∷ []) (caps ++ None ∷ [])
-caps_with_one bidders caps bidder are = record {
-  size = let size = are.size in let p = length-append caps (None ∷ []) in let q = length-append bidders (bidder ∷ []) in omega (arith, p, q, size);
-  range = λ k cap e. are.range k cap (sym (cap_before caps k) ∙ e);
-  positive = λ k cap e.
-      let before = sym (cap_before caps k) ∙ e in
-      let size = are.size in
-      let below = capped_below caps k cap before in
-      subst (λ (b : List ℕ × Book). ArePositive b.1.bids) (sym (get_or_append_left bidders (bidder ∷ []) nobody k (omega (arith, below, size)))) (are.positive k cap before);
-}
 
 -- the first bid of a new bidder
 more_new : (a : AuctionText) (name : List ℕ) (bid : Bid) → IsAuction a → is_name name ≡ true → IsBid (length a.goods) bid → place_of name a.bidders ≡ None → length a.bidders < 256

@@ -23,7 +23,9 @@ pub mod FewCells
 pub mod NamesSoFar
 pub mod Upgrades
 pub mod OwnPlaces
-pub mod OrdersWithout
-pub mod BiddersWithout
+mod OrdersWithout
+mod BiddersWithout
 mod ChangedInPlace
+mod OrdersWithOne
+mod CapsOfMore
 pub mod ChangedAuctions
