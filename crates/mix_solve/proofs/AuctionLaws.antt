@@ -10,7 +10,7 @@ use Rattle.mix_clearing.specs.Clearings.{AreLeastClearing, bidder_utility}
 use Rattle.mix_answer.specs.Refusals.{AreConvex}
 use Rattle.mix_answer.specs.Utilities.{utilities_of}
 use Rattle.mix_answer.proofs.Entrants.{length-utilities, utilities_keep_laws}
-use Rattle.mix_solve.specs.LeastPrices.{AreLeastPrices}
+use Rattle.mix_serve.specs.LeastPrices.{AreLeastPrices}
 use Rattle.mix_solve.proofs.LeastPointsClear.{least_point-exactly}
 
 module _ (a : AuctionText) (is : IsAuction a) (convex : AreConvex a) where

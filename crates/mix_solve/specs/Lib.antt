@@ -1,4 +1,1 @@
-pub mod Admissions
-pub mod LeastPrices
 pub mod Solved
-pub mod Answers

@@ -1,28 +1,19 @@
 // The whole way from an auction to its outcome.
-ghost use Rattle.std.specs.Prelude.{◌≡◌, ◌↔◌, length, map, IfOk};
-ghost use Rattle.mix_cap.specs.MemberLaws.{function_of};
+ghost use Rattle.std.specs.Prelude.{◌↔◌, IfOk};
 ghost use Rattle.mix_text.specs.AuctionTexts.{auction_text};
-ghost use Rattle.mix_text.specs.Orders.{IsTieOrder};
-ghost use Rattle.mix_seller.specs.Sellers.{reserve_of, supply_of};
-ghost use Rattle.mix_market.specs.Markets.{members_of, seller_of};
 ghost use Rattle.mix_clearing.specs.Scales.{AreLeastOfFractions};
 ghost use Rattle.mix_clearing.specs.Values.{AreWorthMost};
 ghost use Rattle.mix_answer.specs.Refusals.{AreConvex};
 ghost use Rattle.mix_answer.specs.Shapes.{HasShape};
 ghost use Rattle.mix_answer.specs.Truths.{HaveFirstTights, IsTrueOutcome, bundles_of};
 ghost use Rattle.mix_answer.specs.Utilities.{scaled_utilities_of, utilities_of};
-ghost use Rattle.mix_solve.specs.Answers.{IsAnswerFor};
 ghost use Rattle.mix_solve.specs.Solved.{IsCleared, IsRefusal, OfAnswer};
 
-use crate::admission::{Admitted, admit};
-use crate::charging::charge;
 use crate::least::least_prices;
-use crate::sharing::share_out;
-use mix_answer::{Answer, Outcome, Tights};
-use mix_cap::Member;
-use mix_market::Market;
-use mix_num::{Memory, Tight};
-use mix_text::{Auction, Order};
+use mix_answer::Outcome;
+use mix_num::Memory;
+use mix_serve::{Admitted, admit, serve};
+use mix_text::Auction;
 use std::alloc::Global;
 
 /// The outcome of an auction. Where each bidder is convex, it is the answer: the least clearing prices at or above the
@@ -43,38 +34,9 @@ pub fn solve(alloc: Global, auction: &Auction) -> Result<Outcome, Memory>
 {
     match admit(alloc, auction)? {
         Admitted::Refused(refusal) => Ok(Outcome::Refused(refusal)),
-        Admitted::Market(market) => Ok(Outcome::Cleared(answer_of(
-            alloc,
-            &market,
-            &auction.order,
-        )?)),
+        Admitted::Market(market) => {
+            let prices = least_prices(&market);
+            Ok(Outcome::Cleared(serve(alloc, auction, &market, &prices)?))
+        }
     }
-}
-
-/// The answer of a market, whose members are served in the tie order.
-fn answer_of(alloc: Global, market: &Market<Member>, order: &Order) -> Result<Answer, Memory>
-    requires { IsTieOrder (length (members_of market.now)) order.now }
-    ensures { IfOk result (IsAnswerFor (map function_of (members_of market.now)) (supply_of (seller_of market.now)) (reserve_of (seller_of market.now)) order.now) }
-{
-    let prices = least_prices(market);
-    let sharing = share_out(alloc, market, order, &prices)?;
-    let shares = charge(alloc, &prices, sharing.bundles)?;
-    let tights = listed(alloc, &sharing.tights)?;
-    Ok(Answer {
-        prices,
-        shares,
-        returns: sharing.returns,
-        tights,
-    })
-}
-
-/// The pairs as the list that an answer has.
-fn listed(alloc: Global, pairs: &[Tight]) -> Result<Tights, Memory>
-    ensures { IfOk result (λ tights. tights ≡ pairs.now) }
-{
-    let mut tights = Tights::new(alloc);
-    for pair in pairs {
-        tights.push(*pair)?;
-    }
-    Ok(tights)
 }

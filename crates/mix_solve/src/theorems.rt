@@ -4,7 +4,7 @@ ghost use Rattle.mix_text.specs.AuctionTexts.{auction_text};
 ghost use Rattle.mix_clearing.specs.Clearings.{AreLeastClearing};
 ghost use Rattle.mix_answer.specs.Refusals.{AreConvex};
 ghost use Rattle.mix_answer.specs.Utilities.{utilities_of};
-ghost use Rattle.mix_solve.specs.LeastPrices.{AreLeastPrices};
+ghost use Rattle.mix_serve.specs.LeastPrices.{AreLeastPrices};
 
 use mix_text::Auction;
 

@@ -12,8 +12,8 @@ use Rattle.mix_market.specs.declared.market.Market.{Market}
 use Rattle.mix_descent.specs.Trails.{IsTrail}
 use Rattle.mix_descent.specs.declared.long_step.LongStep.{LongStep}
 use Rattle.mix_answer.specs.Utilities.{utilities_of}
-use Rattle.mix_solve.specs.Admissions.{IsMarketOf}
-use Rattle.mix_solve.proofs.AuctionPrices.{members_utilities}
+use Rattle.mix_serve.specs.Admissions.{IsMarketOf}
+use Rattle.mix_serve.proofs.AuctionPrices.{members_utilities}
 use Rattle.product_mix.specs.Trailings.{IsTrailOf}
 
 pub trail_of_auction : {g : Ghosts Member} (a : AuctionText) (market : Market Member g) (steps : List LongStep) (prices : List ℤ) → IsAuction a → IsMarketOf a market

@@ -3,7 +3,7 @@ use Rattle.std.specs.Prelude.{◌≡◌, ◌⊎◌, ℕ, ℤ, List, [], ◌∷�
 use Rattle.std.specs.Fmt.{signed_decimal}
 use Rattle.mix_text.specs.Auctions.{AuctionText}
 use Rattle.mix_text.specs.Pages.{line_of}
-use Rattle.mix_solve.specs.LeastPrices.{AreLeastPrices}
+use Rattle.mix_serve.specs.LeastPrices.{AreLeastPrices}
 use Rattle.mix_answer.specs.Refusals.{AreConvex}
 use Rattle.product_mix.specs.Outputs.{Output}
 use Rattle.product_mix.specs.Readings.{auction_alone}

@@ -9,7 +9,7 @@ use Rattle.mix_text.specs.Auctions.{AuctionText}
 use Rattle.mix_text.specs.Pages.{printed}
 use Rattle.mix_answer.specs.Refusals.{AreConvex}
 use Rattle.mix_answer.specs.Utilities.{utilities_of}
-use Rattle.mix_solve.specs.LeastPrices.{AreLeastPrices}
+use Rattle.mix_serve.specs.LeastPrices.{AreLeastPrices}
 use Rattle.product_mix.specs.Outputs.{Output}
 use Rattle.product_mix.specs.Pricings.{prices_page}
 use Rattle.product_mix.specs.Readings.{auction_alone}

@@ -11,7 +11,8 @@ use crate::refusal::refused_bidder;
 use crate::reply::Reply;
 use crate::rows::{add_end, add_prices};
 use mix_num::{Memory, Prices};
-use mix_solve::{Admitted, admit, least_prices};
+use mix_serve::{Admitted, admit};
+use mix_solve::least_prices;
 use mix_text::{Auction, Page, TextError};
 use std::alloc::Global;
 

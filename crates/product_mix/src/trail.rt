@@ -14,7 +14,7 @@ use crate::reply::Reply;
 use crate::rows::{add_end, add_prices, add_step};
 use mix_descent::{Climb, LongSteps, trail};
 use mix_num::Memory;
-use mix_solve::{Admitted, admit};
+use mix_serve::{Admitted, admit};
 use mix_text::{Auction, Page, TextError};
 use std::alloc::Global;
 

@@ -13,7 +13,7 @@ use crate::refusal::refused_bidder;
 use crate::reply::Reply;
 use crate::rows::{add_end, add_valid};
 use mix_num::Memory;
-use mix_solve::{Admitted, admit};
+use mix_serve::{Admitted, admit};
 use mix_text::{Auction, Page, TextError};
 use std::alloc::Global;
 

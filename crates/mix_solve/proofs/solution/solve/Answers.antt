@@ -3,9 +3,9 @@ use Rattle.mix_text.specs.AuctionTexts.{auction_text}
 use Rattle.mix_text.specs.Orders.{IsTieOrder}
 use Rattle.mix_market.specs.Markets.{members_of}
 use Rattle.mix_clearing.proofs.MarketUtilities.{market_lawful}
-use Rattle.mix_solve.specs.Admissions.{IsMarketOf}
-use Rattle.mix_solve.proofs.AuctionAnswers.{Solves, solves_auction}
-use Rattle.mix_solve.proofs.MembersInOrder.{members_count}
+use Rattle.mix_serve.specs.Admissions.{IsMarketOf}
+use Rattle.mix_serve.proofs.AuctionAnswers.{Solves, solves_auction}
+use Rattle.mix_serve.proofs.MembersInOrder.{members_count}
 use Rattle.mix_solve.proofs.solution.solve.Goals as goal
 
 -- the tie order is one of the members, who are as many as the bidders

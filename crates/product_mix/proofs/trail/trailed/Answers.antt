@@ -1,7 +1,7 @@
 use Rattle.std.proofs.Common.{◌≡◌, inl, ap, rules}
 use Rattle.mix_text.specs.AuctionTexts.{auction_text}
-use Rattle.mix_solve.specs.Admissions.{IsMarketOf}
-use Rattle.mix_solve.proofs.AuctionPrices.{least_of_auction}
+use Rattle.mix_serve.specs.Admissions.{IsMarketOf}
+use Rattle.mix_serve.proofs.AuctionPrices.{least_of_auction}
 use Rattle.product_mix.specs.Trailings.{trail_page}
 use Rattle.product_mix.proofs.AuctionTrails.{trail_of_auction}
 use Rattle.product_mix.proofs.trail.trailed.Goals as goal
