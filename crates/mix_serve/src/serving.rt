@@ -47,7 +47,8 @@ pub fn serve(
     ensures worth { IfOk result (λ answer. AreWorthMost (utilities_of (auction_text auction.now)) auction.now.supply.items auction.now.reserve.items (bundles_of answer) answer.returns.items) }
     ensures fractions { IfOk result (λ answer. AreLeastOfFractions (scaled_utilities_of (auction_text auction.now)) auction.now.supply.items auction.now.reserve.items answer.prices.items) }
 {
-    answer_at(alloc, market, &auction.order, prices)
+    let answer = answer_at(alloc, market, &auction.order, prices)?;
+    Ok(answer)
 }
 
 /// The answer of a market at its least prices, whose members are served in the tie order.

@@ -10,8 +10,6 @@ mod comparison;
 #[cfg(test)]
 mod comparison_tests;
 #[cfg(test)]
-mod counted_tests;
-#[cfg(test)]
 mod device_tests;
 #[cfg(test)]
 mod format_tests;
@@ -25,8 +23,6 @@ mod rows;
 #[cfg(test)]
 mod size_tests;
 mod solution;
-#[cfg(test)]
-mod table_tests;
 #[cfg(test)]
 mod tests;
 mod trail;

@@ -1,4 +1,4 @@
-use Rattle.product_mix.proofs.counted_tests.counted_calls.Given as goal
+use Rattle.mix_tests.proofs.counted.counted_calls.Given as goal
 
 abbrev pub ghosts-end_of : goal.ghosts-end_of
 ghosts-end_of g a = record { name = a.blank.name; parts = a.blank.parts }
