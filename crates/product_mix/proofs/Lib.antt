@@ -1,7 +1,6 @@
 mod AuctionTrails
 mod Causes
 mod ComparedRows
-mod FirstBidders
 mod FormerFormats
 mod NamedReasons
 mod PlacedRows
