@@ -62,6 +62,13 @@ impl<D: Convex> Market<D> {
         &self.members
     }
 
+    /// The members, in order, once the market is over.
+    pub fn into_members(self) -> Vec<D>
+        ensures { result.items ≡ members_of self }
+    {
+        self.members
+    }
+
     /// The seller.
     pub fn seller(&self) -> &Seller
         ensures { result.now ≡ seller_of self.now }

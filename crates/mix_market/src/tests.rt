@@ -42,6 +42,7 @@ fn sums_members_and_supply(rt: HostRuntime) -> Result<(), Fail> {
     assert_eq!(rt; market.lyapunov(&pair(0, 0)), 16);
     assert_eq!(rt; market.lyapunov(&pair(1, 1)), 14);
     assert_eq!(rt; market.lyapunov(&pair(5, 4)), 9);
+    assert_eq!(rt; market.into_members().len(), 1);
     Ok(())
 }
 

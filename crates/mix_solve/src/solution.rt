@@ -7,7 +7,7 @@ ghost use Rattle.mix_answer.specs.Refusals.{AreConvex};
 ghost use Rattle.mix_answer.specs.Shapes.{HasShape};
 ghost use Rattle.mix_answer.specs.Truths.{HaveFirstTights, IsTrueOutcome, bundles_of};
 ghost use Rattle.mix_answer.specs.Utilities.{scaled_utilities_of, utilities_of};
-ghost use Rattle.mix_solve.specs.Solved.{IsCleared, IsRefusal, OfAnswer};
+ghost use Rattle.mix_serve.specs.Solved.{IsCleared, IsRefusal, OfAnswer};
 
 use crate::least::least_prices;
 use mix_answer::Outcome;

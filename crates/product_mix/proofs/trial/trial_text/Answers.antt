@@ -1,7 +1,7 @@
 use Rattle.std.proofs.Common.{subst}
 use Rattle.mix_text.specs.AuctionTexts.{auction_text}
 use Rattle.mix_answer.specs.Truths.{HaveFirstTights, IsTrueOutcome}
-use Rattle.mix_solve.specs.Solved.{OfAnswer}
+use Rattle.mix_serve.specs.Solved.{OfAnswer}
 use Rattle.product_mix.proofs.TrialOutputs.{trial_output}
 use Rattle.product_mix.proofs.trial.trial_text.Goals as goal
 
