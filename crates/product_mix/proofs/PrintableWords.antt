@@ -28,3 +28,4 @@ printable_what what.Bidders = refl
 printable_what what.Bids = refl
 printable_what what.Negatives = refl
 printable_what what.Cells = refl
+printable_what what.Clears = refl

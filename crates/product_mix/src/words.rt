@@ -132,5 +132,6 @@ pub fn word_of_limit(what: What) -> &'static [u8]
         What::Bids => b"bids",
         What::Negatives => b"negatives",
         What::Cells => b"cells",
+        What::Clears => b"clears",
     }
 }
