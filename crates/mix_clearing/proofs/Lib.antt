@@ -1,6 +1,7 @@
 pub mod PriceLists
 pub mod ClearingPrices
 pub mod LeastClearing
+pub mod Ceilings
 pub mod LyapunovLaws
 pub mod FallingPrices
 pub mod Completions

@@ -27,6 +27,13 @@ pub fn same_bundles()
         Clears utilities supply reserve others bundles returns }
 {}
 
+/// Of prices at or above the reserves exactly those clear at which the Lyapunov function is what it is at any that clear.
+pub fn clears_exactly()
+    ensures { (utilities : List (Vector → ℤ)) (supply reserve prices : List ℤ) → CanClear utilities supply reserve prices →
+        (others : List ℤ) → length others ≡ length supply → IsBelow (length supply) (with_null reserve) (with_null others) →
+        CanClear utilities supply reserve others ↔ (lyapunov utilities supply (with_null others) ≡ lyapunov utilities supply (with_null prices)) }
+{}
+
 /// Bundles that clear keep the tie rule exactly where, bidder by bidder in the order, each can be completed and is the lexicographically greatest that can.
 pub fn greatest_completable()
     ensures { (utilities : List (Vector → ℤ)) (supply reserve prices : List ℤ) (bundles : List (List ℤ)) (returns : List ℤ) →
