@@ -17,13 +17,14 @@ use Rattle.product_mix.specs.Outputs.{Output, one_row, refusal, too_long}
 use Rattle.product_mix.specs.Calls.{AreTold, IsAnswered, IsDone, IsOutput, IsWanted, IsWritten, IsWrong}
 use Rattle.product_mix.specs.Causes.{Has, IsFaulty, IsMet, IsTooMuch, IsUnmet, Shows, Within}
 use Rattle.product_mix.specs.Checkings.{auction_and_outcome}
+use Rattle.product_mix.specs.Rangings.{HasConvexOwners, HasNonconvexOwner, RangeText, range_text}
 use Rattle.product_mix.specs.Readings.{auction_alone}
 use Rattle.product_mix.specs.Solvings.{outcome_status}
 use Rattle.product_mix.specs.Upgradings.{upgradable}
 use Rattle.product_mix.specs.Utilities.{utility_text}
 use Rattle.product_mix.specs.Refusals.{HasConvexBidders, HasNonconvexBidder, IsRefusal}
 use Rattle.product_mix.specs.declared.words.Command.{Command}
-use Rattle.product_mix.specs.declared.words.Command.TheVariants.{Check, Compare, Prices, Solve, Trail, Upgrade, Utility, Validate}
+use Rattle.product_mix.specs.declared.words.Command.TheVariants.{Check, Compare, Prices, Range, Solve, Trail, Upgrade, Utility, Validate}
 use Rattle.product_mix.specs.declared.words.Task.{Task}
 use Rattle.product_mix.specs.declared.words.Task.TheVariants.{OnText, Trial}
 
@@ -111,6 +112,18 @@ told Compare text output done = record {
   unmet = λ s. absurd (omega (arith, s, status_of _ _ done.2.2));
   one = omega (arith, status_of _ _ done.2.2);
 }
+told Range text output done = elim done.3 [
+  | inl ranged ↦ record {
+    met = λ s. (done.0, done.1, ranged.1.truth.convex);
+    unmet = λ s. absurd (omega (arith, s, status_of _ _ ranged.2));
+    one = omega (arith, status_of _ _ ranged.2);
+  }
+  | inr refused ↦ record {
+    met = λ s. absurd (omega (arith, s, status_of _ _ refused.2));
+    unmet = λ s. (done.0, done.1, refused.0.bidder, refused.1.bidder, refused.1.refused);
+    one = omega (arith, status_of _ _ refused.2);
+  }
+]
 
 -- ---- what is wrong with a text, by its status
 pub refusal_low : (e : TextError) → 2 < (refusal e).status
@@ -225,6 +238,7 @@ one_wrong Solve text d e p q = one_error (auction_alone text) d e p q
 one_wrong Check text d e p q = one_error (auction_and_outcome text) d e p q
 one_wrong Upgrade text d e p q = one_error (upgradable text) d e p q
 one_wrong Compare text d e p q = one_error (auction_alone text) d e p q
+one_wrong Range text d e p q = one_error (range_text text) d e p q
 
 not_done : (command : Command) (text : List ℕ) (e : TextError) (output : Output) → IsWrong command text e → IsDone command text output → ⊥
 not_done Utility text e output wrong done = clash (utility_text text) done.0 e done.1 wrong
@@ -235,6 +249,7 @@ not_done Solve text e output wrong done = clash (auction_alone text) done.0 e do
 not_done Check text e output wrong done = clash (auction_and_outcome text) (done.0, done.1) e done.2 wrong
 not_done Upgrade text e output wrong done = clash (upgradable text) (done.0, done.1) e done.2 wrong
 not_done Compare text e output wrong done = clash (auction_alone text) done.0 e done.1 wrong
+not_done Range text e output wrong done = clash (range_text text) done.0 e done.1 wrong
 
 -- nor is what the command asks met, nor not met
 not_met : (command : Command) (text : List ℕ) (e : TextError) → IsWrong command text e → IsMet command text → ⊥
@@ -246,6 +261,7 @@ not_met Solve text e wrong met = clash (auction_alone text) met.0 e met.1 wrong
 not_met Check text e wrong met = clash (auction_and_outcome text) (met.0, met.1) e met.2 wrong
 not_met Upgrade text e wrong met = clash (upgradable text) (met.0, met.1) e met.2 wrong
 not_met Compare text e wrong met = clash (auction_alone text) met.0 e met.1 wrong
+not_met Range text e wrong met = clash (range_text text) met.0 e met.1 wrong
 
 not_unmet : (command : Command) (text : List ℕ) (e : TextError) → IsWrong command text e → IsUnmet command text → ⊥
 not_unmet Utility text e wrong unmet = unmet
@@ -256,11 +272,17 @@ not_unmet Solve text e wrong unmet = clash (auction_alone text) unmet.0 e unmet.
 not_unmet Check text e wrong unmet = clash (auction_and_outcome text) (unmet.0, unmet.1) e unmet.2 wrong
 not_unmet Upgrade text e wrong unmet = unmet
 not_unmet Compare text e wrong unmet = unmet
+not_unmet Range text e wrong unmet = clash (range_text text) unmet.0 e unmet.1 wrong
 
 -- and it isn't both
 opposed_lists : (text : List ℕ) → HasConvexBidders text → HasNonconvexBidder text → ⊥
 opposed_lists text c d =
     let convex : AreConvex d.0 = subst (λ (a : AuctionText). AreConvex a) (one_value (auction_alone text) c.0 d.0 c.1 d.1) c.2 in
+    d.4 (convex d.2 d.3)
+
+opposed_owners : (text : List ℕ) → HasConvexOwners text → HasNonconvexOwner text → ⊥
+opposed_owners text c d =
+    let convex : AreConvex d.0.auction = subst (λ (range : RangeText). AreConvex range.auction) (one_value (range_text text) c.0 d.0 c.1 d.1) c.2 in
     d.4 (convex d.2 d.3)
 
 opposed : (command : Command) (text : List ℕ) → IsMet command text → IsUnmet command text → ⊥
@@ -274,6 +296,7 @@ opposed Check text met unmet =
     let same = one_value (auction_and_outcome text) (met.0, met.1) (unmet.0, unmet.1) met.2 unmet.2 in
     unmet.3 (subst (λ (p : AuctionText × Outcome). IsTrueOutcome p.0 p.1) same met.3)
 opposed Compare text met unmet = unmet
+opposed Range text met unmet = opposed_owners text met unmet
 
 -- so what a text has decides the status of the output
 abbrev Decides : ℕ → (Command → List ℕ → Type 0) → Type 0

@@ -1,5 +1,5 @@
 -- An auction that is read of a text whose first row names format 1 has format 1.
-use Rattle.std.proofs.Common.{◌≡◌, ◌∙◌, sym, ap, ℕ, pos, ◌+◌, List, [], ◌∷◌, length, drop, true, false, Bool, Result, Ok, refl, arith, subst, nat_lt}
+use Rattle.std.proofs.Common.{◌≡◌, ◌∙◌, sym, ap, ℕ, pos, ◌+◌, List, [], ◌∷◌, length, drop, true, false, Bool, Ok, refl, arith, subst, nat_lt}
 use Rattle.std.specs.Prelude.{◌&&◌, ◌==◌, codes}
 use Rattle.std.specs.Str.{bytes_eq}
 use Rattle.std.proofs.lemmas.Bool.Decides.{nat_tests}

@@ -1,7 +1,10 @@
+mod AnswerTrades
 mod AuctionTrails
 mod Causes
 mod ComparedRows
 mod FormerFormats
+mod GrossAuctions
+mod HighPrices
 mod NamedReasons
 mod PlacedRows
 mod PrintableWords
@@ -14,5 +17,7 @@ mod TrialOutputs
 mod LongerTexts
 mod SameVerdicts
 mod SoundReadings
+mod SwapLaws
+mod SwapsWritten
 mod UpgradedSizes
 mod UpgradedTexts

@@ -1,5 +1,5 @@
 -- What is read after the bids of an auction: caps, order, and the row `end`.
-use Rattle.std.proofs.Common.{◌≡◌, ap, sym, ℕ, ℤ, List, length, Option, Result, Ok}
+use Rattle.std.proofs.Common.{◌≡◌, ap, ℕ, ℤ, List, length, Option, Result, Ok}
 use Rattle.mix_text.specs.Auctions.{AuctionText}
 use Rattle.mix_text.specs.Bidders.{Named}
 use Rattle.mix_text.specs.Caps.{no_caps}

@@ -7,6 +7,7 @@ use Rattle.product_mix.specs.Checkings.{IsCheckingOf, auction_and_outcome}
 use Rattle.product_mix.specs.Comparisons.{IsComparisonOf}
 use Rattle.product_mix.specs.Outputs.{Output, most_bytes, refusal, too_long, unknown_words, unread}
 use Rattle.product_mix.specs.Pricings.{IsPricingOf}
+use Rattle.product_mix.specs.Rangings.{IsRangingOf, range_text}
 use Rattle.product_mix.specs.Readings.{auction_alone}
 use Rattle.product_mix.specs.Solvings.{IsSolvingOf}
 use Rattle.product_mix.specs.Trailings.{IsTrailingOf}
@@ -15,7 +16,7 @@ use Rattle.product_mix.specs.Upgradings.{IsUpgradingOf, upgradable}
 use Rattle.product_mix.specs.Utilities.{utility_text}
 use Rattle.product_mix.specs.Validities.{IsValidityOf}
 use Rattle.product_mix.specs.declared.words.Command.{Command}
-use Rattle.product_mix.specs.declared.words.Command.TheVariants.{Check, Compare, Prices, Solve, Trail, Upgrade, Utility, Validate}
+use Rattle.product_mix.specs.declared.words.Command.TheVariants.{Check, Compare, Prices, Range, Solve, Trail, Upgrade, Utility, Validate}
 use Rattle.product_mix.specs.declared.words.Task.{Task}
 use Rattle.product_mix.specs.declared.words.Task.TheVariants.{OnText, Trial}
 
@@ -29,6 +30,7 @@ IsWrong Solve text e = auction_alone text ≡ Err e
 IsWrong Check text e = auction_and_outcome text ≡ Err e
 IsWrong Upgrade text e = upgradable text ≡ Err e
 IsWrong Compare text e = auction_alone text ≡ Err e
+IsWrong Range text e = range_text text ≡ Err e
 
 -- a text is as the command wants it, and this comes of it
 abbrev pub IsDone : Command → List ℕ → Output → Type 0
@@ -40,6 +42,7 @@ IsDone Solve text output = IsSolvingOf text output
 IsDone Check text output = IsCheckingOf text output
 IsDone Upgrade text output = IsUpgradingOf text output
 IsDone Compare text output = IsComparisonOf text output
+IsDone Range text output = IsRangingOf text output
 
 -- a text is refused, and this comes of it: what is wrong first, whatever the command
 abbrev pub IsRefused : Command → List ℕ → Output → Type 0

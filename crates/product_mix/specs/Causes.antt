@@ -10,11 +10,12 @@ use Rattle.product_mix.specs.Calls.{IsOutput, IsWrong}
 use Rattle.product_mix.specs.Checkings.{HasFalseOutcome, HasTrueOutcome}
 use Rattle.product_mix.specs.Comparisons.{HasAuction}
 use Rattle.product_mix.specs.Outputs.{Output, most_bytes}
+use Rattle.product_mix.specs.Rangings.{HasConvexOwners, HasNonconvexOwner}
 use Rattle.product_mix.specs.Refusals.{HasConvexBidders, HasNonconvexBidder}
 use Rattle.product_mix.specs.Upgradings.{upgradable}
 use Rattle.product_mix.specs.Utilities.{utility_text}
 use Rattle.product_mix.specs.declared.words.Command.{Command}
-use Rattle.product_mix.specs.declared.words.Command.TheVariants.{Check, Compare, Prices, Solve, Trail, Upgrade, Utility, Validate}
+use Rattle.product_mix.specs.declared.words.Command.TheVariants.{Check, Compare, Prices, Range, Solve, Trail, Upgrade, Utility, Validate}
 use Rattle.product_mix.specs.declared.words.Task.{Task}
 use Rattle.product_mix.specs.declared.words.Task.TheVariants.{OnText, Trial}
 
@@ -28,6 +29,7 @@ IsMet Solve text = HasConvexBidders text
 IsMet Check text = HasTrueOutcome text
 IsMet Upgrade text = (a : AuctionText) × (outcome : Outcome) × (upgradable text ≡ Ok (a, outcome))
 IsMet Compare text = HasAuction text
+IsMet Range text = HasConvexOwners text
 
 -- a text is as the command wants it, but what the command asks isn't met: some bidder isn't convex, or the outcome isn't true
 abbrev pub IsUnmet : Command → List ℕ → Type 0
@@ -39,6 +41,7 @@ IsUnmet Solve text = HasNonconvexBidder text
 IsUnmet Check text = HasFalseOutcome text
 IsUnmet Upgrade text = ⊥
 IsUnmet Compare text = ⊥
+IsUnmet Range text = HasNonconvexOwner text
 
 -- a text has a fault before it passes a limit
 abbrev pub IsFaulty : Command → List ℕ → Type 0

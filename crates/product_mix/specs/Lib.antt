@@ -12,5 +12,7 @@ pub mod Trialings
 pub mod Checkings
 pub mod Upgradings
 pub mod Comparisons
+pub mod Rangings
+pub mod Swaps
 pub mod Calls
 pub mod Causes

@@ -7,11 +7,13 @@ ghost use Rattle.mix_io.specs.Given.{IsLonger};
 ghost use Rattle.product_mix.specs.Replies.{output_of};
 ghost use Rattle.product_mix.specs.Calls.{IsAnswered, IsDone, IsOutput, IsWritten, IsWrong, Reads, TakesAtMost, WritesFor, WritesTrial};
 ghost use Rattle.product_mix.specs.Causes.{AreCheckedAlike, Has, IsFaulty, IsMet, IsTooMuch, IsUnmet, Shows, Within};
+ghost use Rattle.product_mix.specs.Swaps.{AreNoWorse, BringReceipts, LieBetween, WritesRange};
 ghost use Rattle.product_mix.specs.Words.{task_of};
 
 use crate::checking::print_check;
 use crate::comparison::print_comparison;
 use crate::prices::print_prices;
+use crate::ranging::print_range;
 use crate::refusal::refused;
 use crate::reply::Reply;
 use crate::solution::print_solution;
@@ -82,6 +84,7 @@ fn done(alloc: Global, command: Command, text: &[u8]) -> Result<Reply, TextError
                 bytes,
             })
         }
+        Command::Range => print_range(alloc, text),
     }
 }
 
@@ -215,6 +218,11 @@ pub fn run<I: Source, K: Sink>(alloc: Global, words: &[String], input: &mut I, o
 
     // What `upgrade` writes is checked as what it read.
     ensures alike { task_of (map (λ w. string_bytes w) words.now) ≡ Some (Task.OnText Command.Upgrade) → result ≡ 0 → AreCheckedAlike (I.left input.old) (K.taken output.old) (K.taken output.new) }
+
+    // What `range` writes: where the prices lie that clear, that no bidder is worse off than with what it owns, and what all trades bring.
+    ensures between { task_of (map (λ w. string_bytes w) words.now) ≡ Some (Task.OnText Command.Range) → result ≡ 0 → WritesRange LieBetween (I.left input.old) (K.taken output.old) (K.taken output.new) }
+    ensures no_worse { task_of (map (λ w. string_bytes w) words.now) ≡ Some (Task.OnText Command.Range) → result ≡ 0 → WritesRange AreNoWorse (I.left input.old) (K.taken output.old) (K.taken output.new) }
+    ensures receipts { task_of (map (λ w. string_bytes w) words.now) ≡ Some (Task.OnText Command.Range) → result ≡ 0 → WritesRange BringReceipts (I.left input.old) (K.taken output.old) (K.taken output.new) }
 
     // No fault of a device is passed over.
     ensures quiet_output { result ≢ 6 → K.faults output.new ≡ K.faults output.old }

@@ -16,6 +16,9 @@ mod format_tests;
 #[cfg(test)]
 mod outcome_tests;
 mod prices;
+#[cfg(test)]
+mod range_tests;
+mod ranging;
 mod reasons;
 mod refusal;
 mod reply;

@@ -10,6 +10,7 @@ ghost use Rattle.mix_answer.specs.Utilities.{entrant_at, entrant_utility, total_
 ghost use Rattle.product_mix.specs.Comparisons.{differ_row, same_row};
 ghost use Rattle.product_mix.specs.Outputs.{fault_row, limit_row};
 ghost use Rattle.product_mix.specs.Pricings.{price_row};
+ghost use Rattle.product_mix.specs.Rangings.{high_row, low_row, return_row, trade_row_at};
 ghost use Rattle.product_mix.specs.Trailings.{step_row};
 ghost use Rattle.product_mix.specs.Trialings.{revenue_row, sold_row};
 ghost use Rattle.product_mix.specs.Utilities.{utility_row};
@@ -22,6 +23,7 @@ use mix_cap::Capped;
 use mix_descent::LongStep;
 use mix_law::Convex;
 use mix_num::{Bundle, Memory, Prices};
+use mix_own::TradeList;
 use mix_text::{Auction, Fault, Limit, Page};
 use std::alloc::Global;
 
@@ -196,6 +198,59 @@ pub fn add_step(page: &mut Page, step: &LongStep) -> Result<(), Memory>
     page.number(i64::from(step.set.bits()))?;
     page.number(step.length)?;
     page.number(step.slope)?;
+    page.end_row()
+}
+
+/// Adds the row of the low prices.
+pub fn add_low(page: &mut Page, prices: &Prices) -> Result<(), Memory>
+    requires { page.old.fields ≡ [] }
+    ensures { OnOk result (page.new ≡ record { ended = page.old.ended ++ line_of (low_row prices.now.items); fields = [] }) }
+{
+    page.text(b"low")?;
+    page.numbers(prices)?;
+    page.end_row()
+}
+
+/// Adds the row of the high prices, or of none.
+pub fn add_high(page: &mut Page, high: &Option<Prices>) -> Result<(), Memory>
+    requires { page.old.fields ≡ [] }
+    ensures { OnOk result (page.new ≡ record { ended = page.old.ended ++ line_of (high_row high.now); fields = [] }) }
+{
+    page.text(b"high")?;
+    match high {
+        Some(prices) => page.numbers(prices)?,
+        None => page.text(b"none")?,
+    }
+    page.end_row()
+}
+
+/// Adds the row of the trade of the bidder at a place, from 0.
+pub fn add_trade(
+    page: &mut Page,
+    auction: &Auction,
+    k: usize,
+    trades: &TradeList,
+) -> Result<(), Memory>
+    requires closed { page.old.fields ≡ [] }
+    requires bidder { k < length auction.now.bidders }
+    requires trade { k < length trades.now }
+    ensures { OnOk result (page.new ≡ record { ended = page.old.ended ++ line_of (trade_row_at (auction_text auction.now) trades.now k); fields = [] }) }
+{
+    let trade = trades.get(k);
+    page.text(b"trade")?;
+    add_bidder(page, auction, k)?;
+    page.numbers(&trade.net)?;
+    page.number(trade.payment)?;
+    page.end_row()
+}
+
+/// Adds the row of the units that are returned.
+pub fn add_return(page: &mut Page, returns: &Bundle) -> Result<(), Memory>
+    requires { page.old.fields ≡ [] }
+    ensures { OnOk result (page.new ≡ record { ended = page.old.ended ++ line_of (return_row returns.now.items); fields = [] }) }
+{
+    page.text(b"return")?;
+    page.numbers(returns)?;
     page.end_row()
 }
 

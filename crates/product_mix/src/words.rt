@@ -28,6 +28,8 @@ pub enum Command {
     Upgrade,
     /// Say of each bidder after the first whether its list has the first one's indirect utility at all whole prices.
     Compare,
+    /// Print how low and how high the prices may be at which bidders who own units trade, where every list of bids is convex.
+    Range,
 }
 
 /// What the words ask for.
@@ -85,6 +87,8 @@ impl Command {
             Some(Command::Upgrade)
         } else if is_alone(words, "compare") {
             Some(Command::Compare)
+        } else if is_alone(words, "range") {
+            Some(Command::Range)
         } else {
             None
         }

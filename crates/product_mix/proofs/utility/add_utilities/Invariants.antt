@@ -1,4 +1,4 @@
-use Rattle.std.proofs.Common.{◌≡◌, ◌++◌, [], length, map}
+use Rattle.std.proofs.Common.{◌≡◌, ◌++◌, [], map}
 use Rattle.mix_num.specs.Orders.{places}
 use Rattle.mix_text.specs.AuctionTexts.{auction_text}
 use Rattle.mix_text.specs.Pages.{printed}
