@@ -1,5 +1,4 @@
 mod Stretches
 mod Landings
-pub mod Straights
 pub mod TrailFacts
 mod LowerStarts

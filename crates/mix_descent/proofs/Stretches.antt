@@ -1,12 +1,11 @@
 -- A set that rises by one reach after the other while its slope is the same, and that no good of it passes 1,000,000.
-use Rattle.std.proofs.Common.{◌≡◌, ℕ, zero, suc, ◌+◌, ◌-◌, ◌≤◌, ◌<◌, Bool, true, false, cond, List, length, get_or, ℤ, pos, ◌+ℤ◌, ◌-ℤ◌, ◌*ℤ◌, ◌≤ℤ◌, refl, arith, sym, ap, ap₂, ◌∙◌, subst, ltb}
+use Rattle.std.proofs.Common.{◌≡◌, ℕ, zero, suc, ◌+◌, ◌-◌, ◌≤◌, ◌<◌, Bool, true, false, cond, List, length, ℤ, pos, ◌+ℤ◌, ◌-ℤ◌, ◌*ℤ◌, ◌≤ℤ◌, refl, arith, sym, ap, ap₂, ◌∙◌, subst, ltb}
 use Rattle.std.proofs.lemmas.Int.{ints, clamps}
 use Rattle.std.proofs.Math.IntN.{zero-*ℤ}
 use Rattle.std.proofs.lemmas.Bool.{ltb-true, ltb-false}
-use Rattle.std.proofs.lemmas.List.{get_or_default}
 use Rattle.mix_num.specs.Vectors.{Vector, Choices, bit, plus, ray, members, with_null, Agree}
-use Rattle.mix_num.specs.Ranges.{AreWithin, Lies}
-use Rattle.mix_num.specs.Moves.{AreEntries, IsSetOfGoods, raised}
+use Rattle.mix_num.specs.Ranges.{AreWithin}
+use Rattle.mix_num.specs.Moves.{IsSetOfGoods, raised}
 use Rattle.mix_num.proofs.Products.{sum-*ℤ}
 use Rattle.mix_law.specs.Members.{KeepsLocal}
 use Rattle.mix_law.proofs.Lattice.{over, over_is}
@@ -17,9 +16,9 @@ use Rattle.mix_market.specs.Steepest.{IsMinimalSteepest, slope_of}
 use Rattle.mix_market.proofs.MarketFacts.{market_keeps}
 use Rattle.mix_descent.specs.Trails.{IsLongStep}
 use Rattle.mix_descent.specs.declared.long_step.LongStep.{LongStep}
-use Rattle.mix_market.proofs.Bounds.{rises_low}
+use Rattle.mix_market.proofs.LongMoves.{stretch_low}
 use Rattle.mix_market.proofs.Rooms.{some_good, count}
-use Rattle.mix_descent.proofs.Straights.{IsStraight, steepest_along, straight_ends, ray_start, ray_step, times_next}
+use Rattle.mix_market.proofs.Straights.{IsStraight, straight_ends, ray_start, ray_step, times_next}
 
 -- here is so many steps along the set from p, the function has risen by the slope at each, and does so at the next
 pub record IsOnTheWay (n : ℕ) (l : Vector → ℤ) (p : Vector) (s : Choices) (slope : ℤ) (here : Vector) (length : ℤ) : Type 0 where
@@ -173,25 +172,14 @@ member_of (suc n) s h = at (s (suc n)) refl h (λ i. member_of n s i)
     at true e i rest = record { good = n; below = omega arith; inside = e }
     at false e i rest = let r = rest (omega arith) in record { good = r.good; below = omega (arith, r.below); inside = r.inside }
 
--- no good of a set that rises in a straight stretch passes 1,000,000
+-- no good of a set that rises by one reach more passes 1,000,000
 module _ {D : Type 0} {g : Ghosts D} (market : Market D g) where
-  pub stretch_low : (p : Vector) (s : Choices) (slope : ℤ) (m : ℕ) → p 0 ≡ pos 0 → 1 ≤ m → IsMinimalSteepest (goods_of market) (lyapunov_of market) p s → IsStraight (lyapunov_of market) p s slope m
-      → (k : ℕ) → k < goods_of market → s (suc k) ≡ true → (p (suc k) +ℤ pos m) ≤ℤ pos 1000000
-  stretch_low p s slope zero null some t h k i inside = absurd (omega arith)
-  stretch_low p s slope (suc m) null some t h k i inside =
-      let last = steepest_along (market_keeps market) p s slope (suc m) t h m (omega arith) in
-      let zeroth : ray p m s 0 ≡ pos 0 = ap₂ (λ (u : ℤ) (b : Bool). u +ℤ cond b (pos m) (pos 0)) null t.goods in
-      let low = rises_low market (ray p m s) s zeroth last k i inside in
-      let own = ap (λ (b : Bool). p (suc k) +ℤ cond b (pos m) (pos 0)) inside in
-      omega (arith, ints)
-
-  -- nor does one in the next reach
   pub low_from : (p here : Vector) (s : Choices) (slope length reach : ℤ) → p 0 ≡ pos 0 → IsMinimalSteepest (goods_of market) (lyapunov_of market) p s → IsOnTheWay (goods_of market) (lyapunov_of market) p s slope here length → pos 1 ≤ℤ reach
       → ((m : ℕ) → pos m ≤ℤ reach → lyapunov_of market (ray here m s) ≡ lyapunov_of market here +ℤ (pos m *ℤ slope_of (lyapunov_of market) here s))
       → (k : ℕ) → k < goods_of market → s (suc k) ≡ true → (here (suc k) +ℤ reach) ≤ℤ pos 1000000
   low_from p here s slope length reach null t w some linear k i inside =
       let h = way_reach (market_keeps market) p s slope here (raised here s reach) length reach (length +ℤ reach) w some linear (λ j q. refl) refl in
-      let low = stretch_low p s slope h.taken null h.some t h.straight k i inside in
+      let low = stretch_low market p s slope h.taken null h.some t h.straight k i inside in
       let a = w.at (suc k) (omega arith) in
       let own = ap (λ (b : Bool). p (suc k) +ℤ cond b (pos w.taken) (pos 0)) inside in
       let u = w.is in
@@ -203,44 +191,9 @@ module _ {D : Type 0} {g : Ghosts D} (market : Market D g) where
       → IsStraight (lyapunov_of market) (with_null p) (members set) slope m → m ≤ 2000000
   far_at_most p set slope m w goods some one t h =
       let k = member_of (goods_of market) (members set) (some_good (goods_of market) set goods some) in
-      let low = stretch_low (with_null p) (members set) slope m refl one t h k.good k.below k.inside in
+      let low = stretch_low market (with_null p) (members set) slope m refl one t h k.good k.below k.inside in
       let range = w.1 k.good (pos 0) (omega (arith, k.below)) in
       omega (arith, ints)
-
--- so the prices stay within it
-pub moved_within : (n : ℕ) (old new : List ℤ) (s : Choices) (by : ℤ) → pos 0 ≤ℤ by → AreWithin 1000000 n old → length new ≡ length old → Agree (length old) (with_null new) (raised (with_null old) s by) → ((k : ℕ) → k < n → s (suc k) ≡ true → (with_null old (suc k) +ℤ by) ≤ℤ pos 1000000) → AreWithin 1000000 n new
-moved_within n old new s by some w count same low = (
-  omega arith,
-  λ k d h.
-      let at_zero = get_or_default new k d (pos 0) h in
-      let inside : k < length old = omega arith in
-      let range = w.1 k (pos 0) inside in
-      let now = same (suc k) inside in
-      let b = moved (get_or old k (pos 0)) (s (suc k)) range (low k (omega arith)) in
-      (omega (arith, ints), omega (arith, ints)),
-)
-  where
-    moved : (a : ℤ) (b : Bool) → Lies 1000000 a → (b ≡ true → (a +ℤ by) ≤ℤ pos 1000000) → Lies 1000000 (a +ℤ cond b by (pos 0))
-    moved a true l h = let below = h refl in (omega (arith, ints), omega (arith, ints))
-    moved a false l h = (omega (arith, ints), omega (arith, ints))
-
--- and may be raised
-pub may_rise : (n : ℕ) (old : List ℤ) (s : Choices) (by : ℤ) → pos 0 ≤ℤ by → AreWithin 1000000 n old → s 0 ≡ false → ((k : ℕ) → k < n → s (suc k) ≡ true → (with_null old (suc k) +ℤ by) ≤ℤ pos 1000000) → AreEntries n (raised (with_null old) s by)
-may_rise n old s by some w null low zero i = let e = ap (λ (b : Bool). pos 0 +ℤ cond b by (pos 0)) null in (omega (arith, ints), omega (arith, ints))
-may_rise n old s by some w null low (suc k) i =
-    let range = w.1 k (pos 0) (omega arith) in
-    moved (get_or old k (pos 0)) (s (suc k)) range (low k (omega arith))
-  where
-    moved : (a : ℤ) (b : Bool) → Lies 1000000 a → (b ≡ true → (a +ℤ by) ≤ℤ pos 1000000) → Lies 4000000 (a +ℤ cond b by (pos 0))
-    moved a true l h = let below = h refl in (omega (arith, ints), omega (arith, ints))
-    moved a false l h = (omega (arith, ints), omega (arith, ints))
-
--- prices within 1,000,000 have room for a step, and may move
-pub room_of : (n : ℕ) (p : List ℤ) → AreWithin 1000000 n p → AreWithin 3999999 n p
-room_of n p w = (w.0, λ k d h. let r = w.1 k d h in (omega (arith, ints, r.0), omega (arith, ints, r.1)))
-
-pub may_move : (n : ℕ) (p : List ℤ) → AreWithin 1000000 n p → AreWithin 4000000 (length p) p
-may_move n p w = (refl, λ k d h. let r = w.1 k d h in (omega (arith, ints, r.0), omega (arith, ints, r.1)))
 
 -- what is left of 2,000,000 steps
 pub less_left : (old new reach : ℤ) (t : ℕ) → new ≡ old +ℤ reach → pos 1 ≤ℤ reach → new ≡ pos t → t ≤ 2000000 → over (pos 2000000 -ℤ new) < over (pos 2000000 -ℤ old)

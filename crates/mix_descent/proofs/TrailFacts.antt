@@ -11,7 +11,7 @@ use Rattle.mix_descent.specs.declared.long_step.LongStep.{LongStep}
 use Rattle.std.proofs.lemmas.Nat.{pow_pos}
 use Rattle.mix_step.proofs.FirstSteepest.{only_one}
 use Rattle.mix_market.proofs.Climbs.{IsBestBelow, best_same, start_best, end_least}
-use Rattle.mix_descent.proofs.Straights.{IsStraight, same_steepest, straight_before, straight_best, ray_step, ray_start}
+use Rattle.mix_market.proofs.Straights.{IsStraight, same_steepest, straight_before, straight_best, ray_step, ray_start}
 
 -- the length of a long step as a number of steps
 pub record IsStretch (l : Vector → ℤ) (p : Vector) (step : LongStep) : Type 0 where

@@ -15,3 +15,6 @@ pub mod Rises
 pub mod LargestSets
 pub mod LargestFalls
 pub mod SingleSteps
+pub mod Straights
+pub mod LongRises
+pub mod LongMoves
