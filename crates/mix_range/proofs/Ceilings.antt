@@ -1,5 +1,5 @@
 -- Prices under a ceiling that is within 1,000,000.
-use Rattle.std.proofs.Common.{◌≡◌, ℕ, zero, suc, ◌<◌, Bool, true, false, cond, List, length, get_or, ℤ, pos, ◌+ℤ◌, ◌<ℤ◌, arith}
+use Rattle.std.proofs.Common.{◌≡◌, ℕ, zero, suc, ◌<◌, Bool, true, false, cond, List, length, get_or, ℤ, pos, ◌+ℤ◌, ◌≤ℤ◌, ◌<ℤ◌, refl, ap, arith}
 use Rattle.std.proofs.lemmas.Int.{ints}
 use Rattle.std.proofs.lemmas.List.{get_or_default}
 use Rattle.mix_num.specs.Vectors.{Vector, Choices, with_null}
@@ -31,15 +31,11 @@ under_ceiling n ceiling x s c h k l e =
     let u = h k l e in
     omega (arith, ints)
 
--- prices within 1,000,000 may rise by one
-pub may_enter_up : (n : ℕ) (prices : List ℤ) (s : Choices) → AreWithin 1000000 n prices → s 0 ≡ false → AreEntries (length prices) (raised (with_null prices) s (pos 1))
-may_enter_up n prices s w o zero h = at (s 0)
+-- prices within 1,000,000 may rise as far as to a ceiling within it
+pub may_rise : (n : ℕ) (ceiling prices : List ℤ) (s : Choices) (by : ℤ) → AreWithin 1000000 n ceiling → AreWithin 1000000 n prices → s 0 ≡ false → pos 0 ≤ℤ by → ((k : ℕ) → k < n → s (suc k) ≡ true → (with_null prices (suc k) +ℤ by) ≤ℤ with_null ceiling (suc k)) → AreEntries (length prices) (raised (with_null prices) s by)
+may_rise n ceiling prices s by c w o some low zero h = let e = ap (λ (b : Bool). pos 0 +ℤ cond b by (pos 0)) o in (omega (arith, ints), omega (arith, ints))
+may_rise n ceiling prices s by c w o some low (suc k) h = at (get_or prices k (pos 0)) (get_or ceiling k (pos 0)) (s (suc k)) (w.1 k (pos 0) (omega arith)) (c.1 k (pos 0) (omega arith)) (low k (omega arith))
   where
-    at : (b : Bool) → Lies 4000000 (pos 0 +ℤ cond b (pos 1) (pos 0))
-    at true = (omega (arith, ints), omega (arith, ints))
-    at false = (omega (arith, ints), omega (arith, ints))
-may_enter_up n prices s w o (suc k) h = at (get_or prices k (pos 0)) (s (suc k)) (w.1 k (pos 0) (omega arith))
-  where
-    at : (a : ℤ) (b : Bool) → Lies 1000000 a → Lies 4000000 (a +ℤ cond b (pos 1) (pos 0))
-    at a true r = (omega (arith, ints), omega (arith, ints))
-    at a false r = (omega (arith, ints), omega (arith, ints))
+    at : (a top : ℤ) (b : Bool) → Lies 1000000 a → Lies 1000000 top → (b ≡ true → (a +ℤ by) ≤ℤ top) → Lies 4000000 (a +ℤ cond b by (pos 0))
+    at a top true r t h = let u = h refl in (omega (arith, ints), omega (arith, ints))
+    at a top false r t h = (omega (arith, ints), omega (arith, ints))

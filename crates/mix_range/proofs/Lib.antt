@@ -1,3 +1,4 @@
 mod Ceilings
 mod HighPoints
 mod LargestRises
+mod LongRises

@@ -1,7 +1,7 @@
 // The greatest of the points that are as low as the least point.
-ghost use Rattle.std.specs.Prelude.{◌≡◌, ◌↔◌, ℕ, ◌<◌, suc, pos, ◌+ℤ◌, ◌≤ℤ◌, length, IsTrue, IsNone, IfSome};
-ghost use Rattle.mix_num.specs.Vectors.{with_null};
-ghost use Rattle.mix_num.specs.Ranges.{AreWithin};
+ghost use Rattle.std.specs.Prelude.{◌≡◌, ◌↔◌, ℕ, ◌<◌, suc, pos, true, ◌+ℤ◌, ◌≤ℤ◌, ◌<ℤ◌, length, IsTrue, IsNone, IfSome};
+ghost use Rattle.mix_num.specs.Vectors.{members, with_null};
+ghost use Rattle.mix_num.specs.Ranges.{AreWithin, Lies};
 ghost use Rattle.mix_seller.specs.Sellers.{reserve_of};
 ghost use Rattle.mix_market.specs.Gaps.{greatest_gap, IsAboveSomewhere};
 ghost use Rattle.mix_market.specs.Lyapunov.{IsBelow, IsLeastPoint};
@@ -11,14 +11,15 @@ ghost use Rattle.mix_range.specs.HighPoints.{IsGreatestAsLow};
 use crate::largest::largest_rise;
 use mix_law::Convex;
 use mix_market::Market;
-use mix_num::{Prices, raise};
+use mix_num::{Prices, Set, raise};
 use mix_step::Steps;
 use std::sync::ledger::Ledger;
 
 /// The greatest of the prices at or above the reserves and at or below the ceiling at which the market's Lyapunov function is
 /// as small as at its least point, `low`; None where a price of `low` is above the ceiling's.
 ///
-/// Prices rise by one search for each unit of the greatest rise, and one that finds nothing.
+/// Prices rise by long steps, as far as nothing changes on the way: at most one search for each unit of the greatest rise, and
+/// one that finds nothing.
 pub fn greatest<D: Convex, L: Ledger>(
     market: &Market<D>,
     low: &Prices,
@@ -62,7 +63,41 @@ fn rise<D: Convex, L: Ledger>(
         if step.set.bits() == 0 {
             return prices;
         }
-        prices = raise(&prices, step.set, 1);
+        // Nothing changes along the set, so prices stay as low for as long as its slope does.
+        let reach = market.reach(&prices, step.set);
+        let length = steps_below(ceiling, &prices, step.set, reach);
+        prices = raise(&prices, step.set, length);
+    }
+}
+
+/// As many of these steps up as no price of the set passes the ceiling's in.
+fn steps_below(ceiling: &Prices, prices: &Prices, set: Set, steps: i64) -> i64
+    requires ceiling { AreWithin 1000000 (length prices.now.items) ceiling.now.items }
+    requires prices { AreWithin 1000000 (length prices.now.items) prices.now.items }
+    requires some { pos 1 ≤ℤ steps }
+    requires may { (k : ℕ) → k < length prices.now.items → members set (suc k) ≡ true → with_null prices.now.items (suc k) <ℤ with_null ceiling.now.items (suc k) }
+    ensures some { (pos 1 ≤ℤ result) × (result ≤ℤ steps) }
+    ensures below { (k : ℕ) → k < length prices.now.items → members set (suc k) ≡ true → (with_null prices.now.items (suc k) +ℤ result) ≤ℤ with_null ceiling.now.items (suc k) }
+{
+    let mut most = steps;
+    for (place, price) in prices.iter().enumerate() {
+        most = fewer(most, set.has(place + 1), *price, ceiling[place]);
+    }
+    most
+}
+
+/// As many of these steps up as a price of the set doesn't pass its top in.
+fn fewer(steps: i64, within: bool, price: i64, top: i64) -> i64
+    requires price { Lies 1000000 price }
+    requires top { Lies 1000000 top }
+    requires some { (pos 1 ≤ℤ steps) × (within ≡ true → price <ℤ top) }
+    ensures some { (pos 1 ≤ℤ result) × (result ≤ℤ steps) }
+    ensures below { within ≡ true → (price +ℤ result) ≤ℤ top }
+{
+    if within {
+        steps.min(top - price)
+    } else {
+        steps
     }
 }
 
