@@ -16,10 +16,11 @@ use std::sync::ledger::Ledger;
 
 /// The least point of the market's Lyapunov function among the prices at or above the floor, from a start at or above it.
 ///
-/// From the start prices rise to the least point at or above it, by one search for each unit of the greatest rise and one
-/// that finds nothing; from there they fall, by one search for each unit of the greatest fall and one that finds nothing. So
-/// where few bids came or went, prices are found from the last ones in few steps. Floor and start have prices from -1,000,000 to
-/// 1,000,000, and so has the answer.
+/// From the start prices rise to the least point at or above it, by at most one search for each unit of the greatest rise and
+/// one that finds nothing; from there they fall, by at most one search for each unit of the greatest fall and one that finds
+/// nothing. On the way up each search moves prices for as long as the slope along its set stays the same. So where few bids
+/// came or went, prices are found from the last ones in few steps. Floor and start have prices from -1,000,000 to 1,000,000,
+/// and so has the answer.
 pub fn settle<D: Convex, L: Ledger>(
     market: &Market<D>,
     floor: &Prices,
@@ -38,7 +39,7 @@ pub fn settle<D: Convex, L: Ledger>(
     fall(market, floor, high, steps)
 }
 
-/// The least point at or above the start, by least steps.
+/// The least point at or above the start, by least steps that go on while their slope is the same.
 fn rise<D: Convex, L: Ledger>(market: &Market<D>, start: &Prices, steps: &mut Steps<L>) -> Prices
     requires start { AreWithin 1000000 (goods_of market.now) start.now.items }
     ensures least { IsLeastPoint (goods_of market.now) (lyapunov_of market.now) (with_null start.now.items) (with_null result.items) }
@@ -51,7 +52,9 @@ fn rise<D: Convex, L: Ledger>(market: &Market<D>, start: &Prices, steps: &mut St
         if step.set.bits() == 0 {
             return prices;
         }
-        prices = raise(&prices, step.set, 1);
+        // While its slope stays the same, the set is still the least step.
+        let reach = market.reach(&prices, step.set);
+        prices = raise(&prices, step.set, reach);
     }
 }
 
