@@ -1,16 +1,18 @@
 // The way to the least point: up by least steps, then down by largest falls.
-ghost use Rattle.std.specs.Prelude.{◌≡◌, ℕ, pos, ◌+ℤ◌, ◌≤ℤ◌};
-ghost use Rattle.mix_num.specs.Vectors.{Vector, with_null};
+ghost use Rattle.std.specs.Prelude.{◌≡◌, ◌<◌, ℕ, pos, ◌+ℤ◌, ◌≤ℤ◌, length, IsTrue};
+ghost use Rattle.mix_num.specs.Vectors.{Vector, members, with_null};
 ghost use Rattle.mix_num.specs.Ranges.{AreWithin};
+ghost use Rattle.mix_num.specs.Moves.{IsSetOfGoods};
 ghost use Rattle.mix_market.specs.Gaps.{greatest_gap};
 ghost use Rattle.mix_market.specs.Lyapunov.{IsBelow, IsLeastPoint};
 ghost use Rattle.mix_market.specs.Markets.{goods_of, lyapunov_of};
-ghost use Rattle.mix_market.specs.LargestFalls.{IsLeastAbove};
+ghost use Rattle.mix_market.specs.LargestFalls.{IsLeastAbove, MayFall};
+ghost use Rattle.mix_fall.specs.LongFalls.{IsLongFall};
 
 use crate::largest::largest_fall;
 use mix_law::Convex;
-use mix_market::Market;
-use mix_num::{Prices, lower, raise};
+use mix_market::{Market, are_above};
+use mix_num::{Prices, Set, lower, raise};
 use mix_step::{Steps, least_step};
 use std::sync::ledger::Ledger;
 
@@ -18,9 +20,8 @@ use std::sync::ledger::Ledger;
 ///
 /// From the start prices rise to the least point at or above it, by at most one search for each unit of the greatest rise and
 /// one that finds nothing; from there they fall, by at most one search for each unit of the greatest fall and one that finds
-/// nothing. On the way up each search moves prices for as long as the slope along its set stays the same. So where few bids
-/// came or went, prices are found from the last ones in few steps. Floor and start have prices from -1,000,000 to 1,000,000,
-/// and so has the answer.
+/// nothing. Each search moves prices on while the slope along its set stays the same. So where few bids came or went, prices are
+/// found from the last ones in few steps. Floor and start have prices from -1,000,000 to 1,000,000, and so has the answer.
 pub fn settle<D: Convex, L: Ledger>(
     market: &Market<D>,
     floor: &Prices,
@@ -79,8 +80,49 @@ fn fall<D: Convex, L: Ledger>(
         if step.set.bits() == 0 {
             return prices;
         }
-        prices = lower(&prices, step.set, 1);
+        let length = fall_length(market, floor, &prices, step.set);
+        prices = lower(&prices, step.set, length);
     }
+}
+
+/// By how much the prices of a set that may fall do so at once, at most 2,000,000: 1, 2, 4 and so on, for as long as the slope
+/// stays the same and the prices above the floor's.
+fn fall_length<D: Convex>(market: &Market<D>, floor: &Prices, prices: &Prices, set: Set) -> i64
+    requires floor { length floor.now.items ≡ goods_of market.now }
+    requires prices { AreWithin 1000000 (goods_of market.now) prices.now.items }
+    requires above { IsBelow (goods_of market.now) (with_null floor.now.items) (with_null prices.now.items) }
+    requires goods { IsSetOfGoods (goods_of market.now) set }
+    requires some { 0 < set }
+    requires may { MayFall (goods_of market.now) (with_null floor.now.items) (with_null prices.now.items) (members set) }
+    ensures long { IsLongFall (goods_of market.now) (lyapunov_of market.now) (with_null floor.now.items) (with_null prices.now.items) (members set) result }
+    ensures most { result ≤ℤ pos 2000000 }
+{
+    let mut length = 1;
+    // No two prices are more than 2,000,000 apart.
+    while length <= 1_000_000 && falls_evenly(market, floor, prices, set, 2 * length) {
+        length *= 2;
+    }
+    length
+}
+
+/// Whether so many steps down along the set end above the floor, and the function changes by the same at each.
+fn falls_evenly<D: Convex>(
+    market: &Market<D>,
+    floor: &Prices,
+    prices: &Prices,
+    set: Set,
+    steps: i64,
+) -> bool
+    requires floor { length floor.now.items ≡ goods_of market.now }
+    requires prices { AreWithin 1000000 (goods_of market.now) prices.now.items }
+    requires above { IsBelow (goods_of market.now) (with_null floor.now.items) (with_null prices.now.items) }
+    requires goods { IsSetOfGoods (goods_of market.now) set }
+    requires some { 0 < set }
+    requires steps { (pos 1 ≤ℤ steps) × (steps ≤ℤ pos 2000000) }
+    ensures { IsTrue result → IsLongFall (goods_of market.now) (lyapunov_of market.now) (with_null floor.now.items) (with_null prices.now.items) (members set) steps }
+{
+    let fallen = lower(prices, set, steps);
+    are_above(floor, &fallen, set) && market.reach(&fallen, set) >= steps
 }
 
 /// The same prices.

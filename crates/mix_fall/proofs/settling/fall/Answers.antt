@@ -1,13 +1,17 @@
-use Rattle.std.proofs.Common.{◌≡◌, ◌∙◌, ℕ, suc, pos, ◌-ℤ◌, arith, subst, sym, refl}
+use Rattle.std.proofs.Common.{◌≡◌, ◌∙◌, ℕ, suc, ℤ, pos, ◌-ℤ◌, to_z, of_z, w64, arith, subst, sym, refl}
 use Rattle.std.proofs.lemmas.Int.{ints}
-use Rattle.mix_num.specs.Vectors.{members, with_null, minus, Agree}
-use Rattle.mix_market.specs.Markets.{goods_of}
+use Rattle.mix_num.specs.Vectors.{members, with_null, Agree}
+use Rattle.mix_num.specs.Moves.{lowered}
+use Rattle.mix_market.specs.Markets.{goods_of, lyapunov_of}
 use Rattle.mix_market.specs.Gaps.{greatest_gap}
+use Rattle.mix_market.specs.Lyapunov.{IsBelow}
 use Rattle.mix_market.proofs.MarketFacts.{market_keeps}
-use Rattle.mix_market.proofs.Rooms.{depth-lowered, depth-same, some_good, not_empty, nothing_in}
-use Rattle.mix_market.proofs.Units.{lowered_within, may_enter, widened}
+use Rattle.mix_market.proofs.Rooms.{some_good, not_empty, nothing_in}
+use Rattle.mix_market.proofs.Units.{widened}
 use Rattle.mix_market.proofs.Gaps.{gap_covers}
-use Rattle.mix_market.proofs.LargestFalls.{fall_above, fall_over, fall_counts, fall_ends, same_above}
+use Rattle.mix_market.proofs.LargestFalls.{fall_ends, same_above}
+use Rattle.mix_fall.specs.LongFalls.{IsLongFall}
+use Rattle.mix_fall.proofs.LongFalls.{fallen_within, long_above, long_counts, long_depth, may_fall}
 use Rattle.mix_fall.proofs.settling.fall.Goals as goal
 
 pub loop-step-init : goal.loop-step-init
@@ -37,7 +41,12 @@ pub lower-prices-requires-clause-before : goal.lower-prices-requires-clause-befo
 lower-prices-requires-clause-before g c = widened _ c.loop-step.prices.items c.loop-step.invariant.range
 
 pub lower-prices-requires-clause-after : goal.lower-prices-requires-clause-after
-lower-prices-requires-clause-after g c = may_enter _ c.loop-step.prices.items (members c.largest_fall-step.result.set) c.loop-step.invariant.range c.largest_fall-step.ensures.goods.1
+lower-prices-requires-clause-after g c =
+    let length = to_z w64 (of_z w64 c.fall_length-length.result) in
+    let same : length ≡ c.fall_length-length.result = omega (arith, ints) in
+    let some = c.fall_length-length.ensures.long.some in
+    let most = c.fall_length-length.ensures.most in
+    may_fall _ c.loop-step.prices.items (members c.largest_fall-step.result.set) length c.loop-step.invariant.range c.largest_fall-step.ensures.goods.1 (omega (arith, ints)) (omega (arith, ints))
 
 pub loop-step-smaller : goal.loop-step-smaller
 loop-step-smaller g c =
@@ -47,11 +56,12 @@ loop-step-smaller g c =
     let floor = with_null c.args.floor.now.items in
     let s = members c.largest_fall-step.result.set in
     let may = c.largest_fall-step.ensures.largest.may in
-    let lowered = subst (λ (m : ℕ). Agree m (with_null c.lower-prices.result.items) (minus x s)) c.loop-step.invariant.range.0 c.lower-prices.ensures.prices in
-    let same = depth-same n (with_null c.lower-prices.result.items) (minus x s) floor lowered in
-    let less = depth-lowered n x floor s (λ k l e. may.above (suc k) (omega arith) e) in
+    let length = to_z w64 (of_z w64 c.fall_length-length.result) in
+    let same : length ≡ c.fall_length-length.result = omega (arith, ints) in
+    let one = c.fall_length-length.ensures.long.some in
+    let fallen = subst (λ (m : ℕ). Agree m (with_null c.lower-prices.result.items) (lowered x s length)) c.loop-step.invariant.range.0 c.lower-prices.ensures.prices in
     let some = some_good n c.largest_fall-step.result.set c.largest_fall-step.ensures.goods (λ e. c.if-bits-eq0.false (c.bits.ensures.value ∙ e)) in
-    omega arith
+    long_depth n x (with_null c.lower-prices.result.items) floor s length (omega (arith, ints)) some (λ k l e. may.above (suc k) (omega arith) e) fallen
 
 pub loop-step-preserved : goal.loop-step-preserved
 loop-step-preserved g c =
@@ -59,21 +69,26 @@ loop-step-preserved g c =
     let n = goods_of market in
     let keeps = market_keeps market in
     let x = with_null c.loop-step.prices.items in
+    let q = with_null c.lower-prices.result.items in
     let floor = with_null c.args.floor.now.items in
     let high = with_null c.args.high.items in
     let s = members c.largest_fall-step.result.set in
     let largest = c.largest_fall-step.ensures.largest in
     let before = c.loop-step.invariant in
-    let lowered = subst (λ (m : ℕ). Agree m (with_null c.lower-prices.result.items) (minus x s)) before.range.0 c.lower-prices.ensures.prices in
-    let some = not_empty n c.largest_fall-step.result.set c.largest_fall-step.ensures.goods (λ e. c.if-bits-eq0.false (c.bits.ensures.value ∙ e)) in
+    let length = to_z w64 (of_z w64 c.fall_length-length.result) in
+    let same : c.fall_length-length.result ≡ length = omega (arith, ints) in
+    let long = subst (λ (z : ℤ). IsLongFall n (lyapunov_of market) floor x s z) same c.fall_length-length.ensures.long in
+    let fallen = subst (λ (m : ℕ). Agree m q (lowered x s length)) before.range.0 c.lower-prices.ensures.prices in
+    let any = not_empty n c.largest_fall-step.result.set c.largest_fall-step.ensures.goods (λ e. c.if-bits-eq0.false (c.bits.ensures.value ∙ e)) in
+    let over : IsBelow n floor q = λ k h. let entry = fallen k h in let u = long.above k h in omega (arith, ints) in
     record {
-      range = lowered_within n c.loop-step.prices.items _ c.args.floor.now.items s before.range c.requires.floor c.lower-prices.ensures.goods c.lower-prices.ensures.prices (λ k l e. largest.may.above (suc k) (omega arith) e);
-      over = λ k h. let entry = lowered k h in let over = fall_over keeps floor x s largest.may before.over k h in omega (arith, ints);
-      above = same_above keeps (minus x s) _ lowered (fall_above keeps floor x s refl largest before.above);
+      range = fallen_within n c.args.floor.now.items c.loop-step.prices.items c.lower-prices.result.items s length c.requires.floor before.range c.lower-prices.ensures.goods long.some fallen over;
+      over = over;
+      above = same_above keeps (lowered x s length) q fallen (long_above keeps floor x s refl largest before.over length long before.above);
       near = λ a z least k h.
           let left = greatest_gap n high a -ℤ (pos c.loop-step.steps -ℤ pos c.args.steps.now) in
-          let count = fall_counts keeps floor a z least x s refl before.over before.above largest some left (before.near a z least) k h in
-          let entry = lowered k h in
+          let count = long_counts keeps floor x s refl largest before.over length long a z least before.above any left (before.near a z least) k h in
+          let entry = fallen k h in
           let cost = c.largest_fall-step.ensures.cost in
           omega (arith, ints);
     }
