@@ -105,7 +105,8 @@ fn fall_length<D: Convex>(market: &Market<D>, floor: &Prices, prices: &Prices, s
     length
 }
 
-/// Whether so many steps down along the set end above the floor, and the function changes by the same at each.
+/// Whether so many steps down along the set end above the floor, and the reach from there leads back up: then the function changes
+/// by the same at each of them.
 fn falls_evenly<D: Convex>(
     market: &Market<D>,
     floor: &Prices,
