@@ -1,0 +1,4 @@
+mod AuctionSteps
+mod ChangedStandings
+pub mod KnownBidders
+mod MovedMembers

@@ -1,0 +1,14 @@
+//! An auction that is run again and again while bids come and go: it keeps what was found of its bidders, and the last prices, from
+//! which the next ones are found.
+#![tactic(auto)]
+
+mod changes;
+mod clearing;
+mod copies;
+mod faults;
+mod members;
+mod session;
+mod standing;
+
+pub use faults::{AddError, NoBidder};
+pub use session::Session;
