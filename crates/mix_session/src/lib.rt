@@ -7,8 +7,16 @@ mod clearing;
 mod copies;
 mod faults;
 mod members;
+mod playing;
+mod row_playing;
 mod session;
 mod standing;
 
 pub use faults::{AddError, NoBidder};
+pub use playing::play;
 pub use session::Session;
+
+#[cfg(test)]
+mod playing_tests;
+#[cfg(test)]
+mod tests;
