@@ -19,12 +19,13 @@ use Rattle.product_mix.specs.Causes.{Has, IsFaulty, IsMet, IsTooMuch, IsUnmet, S
 use Rattle.product_mix.specs.Checkings.{auction_and_outcome}
 use Rattle.product_mix.specs.Rangings.{HasConvexOwners, HasNonconvexOwner, RangeText, range_text}
 use Rattle.product_mix.specs.Readings.{auction_alone}
+use Rattle.product_mix.specs.Sessions.{session_text}
 use Rattle.product_mix.specs.Solvings.{outcome_status}
 use Rattle.product_mix.specs.Upgradings.{upgradable}
 use Rattle.product_mix.specs.Utilities.{utility_text}
 use Rattle.product_mix.specs.Refusals.{HasConvexBidders, HasNonconvexBidder, IsRefusal}
 use Rattle.product_mix.specs.declared.words.Command.{Command}
-use Rattle.product_mix.specs.declared.words.Command.TheVariants.{Check, Compare, Prices, Range, Solve, Trail, Upgrade, Utility, Validate}
+use Rattle.product_mix.specs.declared.words.Command.TheVariants.{Check, Compare, Prices, Range, Session, Solve, Trail, Upgrade, Utility, Validate}
 use Rattle.product_mix.specs.declared.words.Task.{Task}
 use Rattle.product_mix.specs.declared.words.Task.TheVariants.{OnText, Trial}
 
@@ -124,6 +125,11 @@ told Range text output done = elim done.3 [
     one = omega (arith, status_of _ _ refused.2);
   }
 ]
+told Session text output done = record {
+  met = λ s. (done.0, done.1);
+  unmet = λ s. absurd (omega (arith, s, status_of _ _ done.2.2.2));
+  one = omega (arith, status_of _ _ done.2.2.2);
+}
 
 -- ---- what is wrong with a text, by its status
 pub refusal_low : (e : TextError) → 2 < (refusal e).status
@@ -239,6 +245,7 @@ one_wrong Check text d e p q = one_error (auction_and_outcome text) d e p q
 one_wrong Upgrade text d e p q = one_error (upgradable text) d e p q
 one_wrong Compare text d e p q = one_error (auction_alone text) d e p q
 one_wrong Range text d e p q = one_error (range_text text) d e p q
+one_wrong Session text d e p q = one_error (session_text text) d e p q
 
 not_done : (command : Command) (text : List ℕ) (e : TextError) (output : Output) → IsWrong command text e → IsDone command text output → ⊥
 not_done Utility text e output wrong done = clash (utility_text text) done.0 e done.1 wrong
@@ -250,6 +257,7 @@ not_done Check text e output wrong done = clash (auction_and_outcome text) (done
 not_done Upgrade text e output wrong done = clash (upgradable text) (done.0, done.1) e done.2 wrong
 not_done Compare text e output wrong done = clash (auction_alone text) done.0 e done.1 wrong
 not_done Range text e output wrong done = clash (range_text text) done.0 e done.1 wrong
+not_done Session text e output wrong done = clash (session_text text) done.0 e done.1 wrong
 
 -- nor is what the command asks met, nor not met
 not_met : (command : Command) (text : List ℕ) (e : TextError) → IsWrong command text e → IsMet command text → ⊥
@@ -262,6 +270,7 @@ not_met Check text e wrong met = clash (auction_and_outcome text) (met.0, met.1)
 not_met Upgrade text e wrong met = clash (upgradable text) (met.0, met.1) e met.2 wrong
 not_met Compare text e wrong met = clash (auction_alone text) met.0 e met.1 wrong
 not_met Range text e wrong met = clash (range_text text) met.0 e met.1 wrong
+not_met Session text e wrong met = clash (session_text text) met.0 e met.1 wrong
 
 not_unmet : (command : Command) (text : List ℕ) (e : TextError) → IsWrong command text e → IsUnmet command text → ⊥
 not_unmet Utility text e wrong unmet = unmet
@@ -273,6 +282,7 @@ not_unmet Check text e wrong unmet = clash (auction_and_outcome text) (unmet.0, 
 not_unmet Upgrade text e wrong unmet = unmet
 not_unmet Compare text e wrong unmet = unmet
 not_unmet Range text e wrong unmet = clash (range_text text) unmet.0 e unmet.1 wrong
+not_unmet Session text e wrong unmet = unmet
 
 -- and it isn't both
 opposed_lists : (text : List ℕ) → HasConvexBidders text → HasNonconvexBidder text → ⊥
@@ -297,6 +307,7 @@ opposed Check text met unmet =
     unmet.3 (subst (λ (p : AuctionText × Outcome). IsTrueOutcome p.0 p.1) same met.3)
 opposed Compare text met unmet = unmet
 opposed Range text met unmet = opposed_owners text met unmet
+opposed Session text met unmet = unmet
 
 -- so what a text has decides the status of the output
 abbrev Decides : ℕ → (Command → List ℕ → Type 0) → Type 0

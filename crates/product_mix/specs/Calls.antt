@@ -9,6 +9,7 @@ use Rattle.product_mix.specs.Outputs.{Output, most_bytes, refusal, too_long, unk
 use Rattle.product_mix.specs.Pricings.{IsPricingOf}
 use Rattle.product_mix.specs.Rangings.{IsRangingOf, range_text}
 use Rattle.product_mix.specs.Readings.{auction_alone}
+use Rattle.product_mix.specs.Sessions.{IsSessionOf, session_text}
 use Rattle.product_mix.specs.Solvings.{IsSolvingOf}
 use Rattle.product_mix.specs.Trailings.{IsTrailingOf}
 use Rattle.product_mix.specs.Trialings.{IsTrialing}
@@ -16,7 +17,7 @@ use Rattle.product_mix.specs.Upgradings.{IsUpgradingOf, upgradable}
 use Rattle.product_mix.specs.Utilities.{utility_text}
 use Rattle.product_mix.specs.Validities.{IsValidityOf}
 use Rattle.product_mix.specs.declared.words.Command.{Command}
-use Rattle.product_mix.specs.declared.words.Command.TheVariants.{Check, Compare, Prices, Range, Solve, Trail, Upgrade, Utility, Validate}
+use Rattle.product_mix.specs.declared.words.Command.TheVariants.{Check, Compare, Prices, Range, Session, Solve, Trail, Upgrade, Utility, Validate}
 use Rattle.product_mix.specs.declared.words.Task.{Task}
 use Rattle.product_mix.specs.declared.words.Task.TheVariants.{OnText, Trial}
 
@@ -31,6 +32,7 @@ IsWrong Check text e = auction_and_outcome text ≡ Err e
 IsWrong Upgrade text e = upgradable text ≡ Err e
 IsWrong Compare text e = auction_alone text ≡ Err e
 IsWrong Range text e = range_text text ≡ Err e
+IsWrong Session text e = session_text text ≡ Err e
 
 -- a text is as the command wants it, and this comes of it
 abbrev pub IsDone : Command → List ℕ → Output → Type 0
@@ -43,6 +45,7 @@ IsDone Check text output = IsCheckingOf text output
 IsDone Upgrade text output = IsUpgradingOf text output
 IsDone Compare text output = IsComparisonOf text output
 IsDone Range text output = IsRangingOf text output
+IsDone Session text output = IsSessionOf text output
 
 -- a text is refused, and this comes of it: what is wrong first, whatever the command
 abbrev pub IsRefused : Command → List ℕ → Output → Type 0

@@ -12,10 +12,11 @@ use Rattle.product_mix.specs.Comparisons.{HasAuction}
 use Rattle.product_mix.specs.Outputs.{Output, most_bytes}
 use Rattle.product_mix.specs.Rangings.{HasConvexOwners, HasNonconvexOwner}
 use Rattle.product_mix.specs.Refusals.{HasConvexBidders, HasNonconvexBidder}
+use Rattle.product_mix.specs.Sessions.{HasSession}
 use Rattle.product_mix.specs.Upgradings.{upgradable}
 use Rattle.product_mix.specs.Utilities.{utility_text}
 use Rattle.product_mix.specs.declared.words.Command.{Command}
-use Rattle.product_mix.specs.declared.words.Command.TheVariants.{Check, Compare, Prices, Range, Solve, Trail, Upgrade, Utility, Validate}
+use Rattle.product_mix.specs.declared.words.Command.TheVariants.{Check, Compare, Prices, Range, Session, Solve, Trail, Upgrade, Utility, Validate}
 use Rattle.product_mix.specs.declared.words.Task.{Task}
 use Rattle.product_mix.specs.declared.words.Task.TheVariants.{OnText, Trial}
 
@@ -30,6 +31,7 @@ IsMet Check text = HasTrueOutcome text
 IsMet Upgrade text = (a : AuctionText) × (outcome : Outcome) × (upgradable text ≡ Ok (a, outcome))
 IsMet Compare text = HasAuction text
 IsMet Range text = HasConvexOwners text
+IsMet Session text = HasSession text
 
 -- a text is as the command wants it, but what the command asks isn't met: some bidder isn't convex, or the outcome isn't true
 abbrev pub IsUnmet : Command → List ℕ → Type 0
@@ -42,6 +44,7 @@ IsUnmet Check text = HasFalseOutcome text
 IsUnmet Upgrade text = ⊥
 IsUnmet Compare text = ⊥
 IsUnmet Range text = HasNonconvexOwner text
+IsUnmet Session text = ⊥
 
 -- a text has a fault before it passes a limit
 abbrev pub IsFaulty : Command → List ℕ → Type 0

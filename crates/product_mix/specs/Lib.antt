@@ -14,5 +14,6 @@ pub mod Upgradings
 pub mod Comparisons
 pub mod Rangings
 pub mod Swaps
+pub mod Sessions
 pub mod Calls
 pub mod Causes

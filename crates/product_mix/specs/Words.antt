@@ -9,7 +9,7 @@ use Rattle.mix_text.specs.declared.faults.What.{What}
 use Rattle.mix_text.specs.declared.faults.What.TheVariants as what
 use Rattle.mix_text.specs.Spelling.{between, spelled_number}
 use Rattle.product_mix.specs.declared.words.Command.{Command}
-use Rattle.product_mix.specs.declared.words.Command.TheVariants.{Check, Compare, Prices, Range, Solve, Trail, Upgrade, Utility, Validate}
+use Rattle.product_mix.specs.declared.words.Command.TheVariants.{Check, Compare, Prices, Range, Session, Solve, Trail, Upgrade, Utility, Validate}
 use Rattle.product_mix.specs.declared.words.Task.{Task}
 use Rattle.product_mix.specs.declared.words.Task.TheVariants.{OnText, Trial}
 
@@ -29,6 +29,7 @@ command_of words =
     else if are_alone words (codes "upgrade") then Some Upgrade
     else if are_alone words (codes "compare") then Some Compare
     else if are_alone words (codes "range") then Some Range
+    else if are_alone words (codes "session") then Some Session
     else None
 
 -- a trial auction, where a number was read, which has no sign

@@ -16,6 +16,7 @@ use crate::prices::print_prices;
 use crate::ranging::print_range;
 use crate::refusal::refused;
 use crate::reply::Reply;
+use crate::session::print_session;
 use crate::solution::print_solution;
 use crate::trail::print_trail;
 use crate::trial::trial_text;
@@ -85,6 +86,13 @@ fn done(alloc: Global, command: Command, text: &[u8]) -> Result<Reply, TextError
             })
         }
         Command::Range => print_range(alloc, text),
+        Command::Session => {
+            let bytes = print_session(alloc, text)?;
+            Ok(Reply {
+                status: DONE,
+                bytes,
+            })
+        }
     }
 }
 

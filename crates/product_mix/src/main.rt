@@ -23,6 +23,9 @@ mod reasons;
 mod refusal;
 mod reply;
 mod rows;
+mod session;
+#[cfg(test)]
+mod session_tests;
 #[cfg(test)]
 mod size_tests;
 mod solution;

@@ -30,6 +30,8 @@ pub enum Command {
     Compare,
     /// Print how low and how high the prices may be at which bidders who own units trade, where every list of bids is convex.
     Range,
+    /// Print the outcome wherever one is asked for, while bids are added and bidders leave.
+    Session,
 }
 
 /// What the words ask for.
@@ -89,6 +91,8 @@ impl Command {
             Some(Command::Compare)
         } else if is_alone(words, "range") {
             Some(Command::Range)
+        } else if is_alone(words, "session") {
+            Some(Command::Session)
         } else {
             None
         }
