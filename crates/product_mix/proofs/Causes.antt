@@ -127,8 +127,8 @@ told Range text output done = elim done.3 [
 ]
 told Session text output done = record {
   met = λ s. (done.0, done.1);
-  unmet = λ s. absurd (omega (arith, s, status_of _ _ done.2.2.2));
-  one = omega (arith, status_of _ _ done.2.2.2);
+  unmet = λ s. absurd (omega (arith, s, status_of _ _ done.2.2));
+  one = omega (arith, status_of _ _ done.2.2);
 }
 
 -- ---- what is wrong with a text, by its status
