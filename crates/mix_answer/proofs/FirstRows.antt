@@ -14,11 +14,6 @@ use Rattle.mix_answer.specs.declared.share.Share.{Share}
 
 -- ---- any rows
 
--- what came of no rows changes nothing
-nothing_before : {X : Type 0} (read : Result (List X × List RowText) OutcomeError) → following [] read ≡ read
-nothing_before (Ok (xs, rows)) = refl
-nothing_before (Err e) = refl
-
 -- no row is wanted
 pub none_wanted : {W X : Type 0} (next : ℕ) (read : W → List (List ℕ) → Result X Code) (before : List X) (rows : List RowText) → following before (first_rows next read [] rows) ≡ Ok (before, rows)
 unfolding first_rows
@@ -67,10 +62,6 @@ wrong_alone before (Ok p) e h = cc h
 wrong_alone before (Err w) e h = h
 
 -- ---- a loop's turns, of all that is wanted from a place on
-
--- at first nothing came before
-pub turn_first : {W X : Type 0} (next : ℕ) (read : W → List (List ℕ) → Result X Code) (all : List W) (rows : List RowText) → following [] (first_rows next read all rows) ≡ first_rows next read all rows
-turn_first next read all rows = nothing_before (first_rows next read all rows)
 
 -- at last all came
 pub turn_last : {W X : Type 0} (next : ℕ) (read : W → List (List ℕ) → Result X Code) (before : List X) (all : List W) (rows : List RowText) (first k : ℕ) (told : Result (List X × List RowText) OutcomeError) → k ≡ length all

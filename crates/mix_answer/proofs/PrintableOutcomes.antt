@@ -19,11 +19,12 @@ use Rattle.mix_text.specs.Bidders.{name_at, names_at}
 use Rattle.mix_text.specs.Formats.{has_order}
 use Rattle.mix_text.specs.Pages.{is_printable, is_printable_row}
 use Rattle.mix_text.specs.Rows.{numbered, rows_of}
+use Rattle.mix_text.specs.SharedRows.{amounts_row, end_row, order_row, order_rows}
 use Rattle.mix_text.specs.Spelling.{is_name}
 use Rattle.mix_text.proofs.PrintedNumbers.{signed_printable}
 use Rattle.mix_text.proofs.ReadBack.{rows_of-printed}
 use Rattle.mix_text.proofs.Spellings.{name_printable}
-use Rattle.mix_answer.specs.Outcomes.{BidderGood, amounts_row, answer_rows, bidders_goods, choice_text, cleared_row, end_row, head_row, inner_rows, order_row, order_rows, outcome_rows, outcome_text, refusal_row, share_row, share_rows, tight_row, tight_rows, version_of}
+use Rattle.mix_answer.specs.Outcomes.{BidderGood, answer_rows, bidders_goods, choice_text, cleared_row, head_row, inner_rows, outcome_rows, outcome_text, refusal_row, share_row, share_rows, tight_row, tight_rows, version_of}
 use Rattle.mix_answer.specs.Readings.{lines_of, outcome_in}
 use Rattle.mix_answer.specs.Shapes.{AreSets, FitsAuction, HasAnswerShape, HasShape, IsShare}
 use Rattle.mix_answer.specs.declared.outcome.Answer.{Answer}

@@ -7,7 +7,8 @@ use Rattle.mix_num.specs.declared.pair.Tight.{Tight}
 use Rattle.mix_text.specs.Auctions.{AuctionText}
 use Rattle.mix_text.specs.Bidders.{Named, name_at}
 use Rattle.mix_text.specs.Pages.{PageText, line_of, printed}
-use Rattle.mix_answer.specs.Outcomes.{BidderGood, amounts_row, answer_rows, bidders_goods, cleared_row, end_row, head_row, inner_rows, order_rows, outcome_text, share_row, share_rows, tight_row, tight_rows, with_each}
+use Rattle.mix_text.specs.SharedRows.{amounts_row, end_row, order_rows}
+use Rattle.mix_answer.specs.Outcomes.{BidderGood, answer_rows, bidders_goods, cleared_row, head_row, inner_rows, outcome_text, share_row, share_rows, tight_row, tight_rows, with_each}
 use Rattle.mix_answer.specs.declared.outcome.Answer.{Answer}
 use Rattle.mix_answer.specs.declared.outcome.Outcome.{Outcome}
 use Rattle.mix_answer.specs.declared.share.Share.{Share}

@@ -13,10 +13,11 @@ use Rattle.mix_text.specs.Bidders.{Named, name_at, names_at}
 use Rattle.mix_text.specs.Formats.{has_order}
 use Rattle.mix_text.specs.Reading.{◌>>=◌, begins, end_of}
 use Rattle.mix_text.specs.Rows.{RowText}
+use Rattle.mix_text.specs.SharedRows.{amounts_row, end_row, order_row, order_rows}
 use Rattle.mix_text.specs.Spelling.{is_name}
 use Rattle.mix_text.specs.declared.faults.Code.{Code}
 use Rattle.mix_text.proofs.Sound.{then_ok}
-use Rattle.mix_answer.specs.Outcomes.{BidderGood, amounts_row, answer_rows, bidders_goods, cleared_row, end_row, head_row, inner_rows, order_row, order_rows, outcome_rows, refusal_row, share_row, share_rows, tight_row, tight_rows, with_each}
+use Rattle.mix_answer.specs.Outcomes.{BidderGood, answer_rows, bidders_goods, cleared_row, head_row, inner_rows, outcome_rows, refusal_row, share_row, share_rows, tight_row, tight_rows, with_each}
 use Rattle.mix_answer.specs.Readings.{amounts_of, answer_in, cleared_of, first_row, first_rows, head_of, in_row, inner_in, lines_of, none_left, order_in, order_of, outcome_in, refusal_row_of, share_of, tight_of}
 use Rattle.mix_answer.specs.Shapes.{AreSets, HasAnswerShape, HasShape, IsShare}
 use Rattle.mix_answer.specs.declared.faults.OutcomeError.{OutcomeError}

@@ -15,11 +15,12 @@ use Rattle.mix_text.specs.Bidders.{name_at}
 use Rattle.mix_text.specs.Names.{AreNames}
 use Rattle.mix_text.specs.Formats.{has_order}
 use Rattle.mix_text.specs.Reading.{◌>>=◌, begins, bidder_of, each_of, end_of, field_at, holds, number_in, numbers_of}
+use Rattle.mix_text.specs.SharedRows.{amounts_row, end_row, order_row}
 use Rattle.mix_text.specs.Spelling.{is_name}
 use Rattle.mix_text.specs.declared.faults.Code.TheVariants as code
 use Rattle.mix_text.proofs.Gathering.{bytes_eq_refl, same_bytes}
 use Rattle.mix_text.proofs.Sound.{equal_numbers, holds_ok, then_ok}
-use Rattle.mix_answer.specs.Outcomes.{BidderGood, amounts_row, choice_text, cleared_row, end_row, head_row, order_row, refusal_row, share_row, tight_row, version_of}
+use Rattle.mix_answer.specs.Outcomes.{BidderGood, choice_text, cleared_row, head_row, refusal_row, share_row, tight_row, version_of}
 use Rattle.mix_answer.specs.Readings.{amounts_of, choice_of, cleared_of, head_of, numbers_at, order_of, refusal_of, refusal_row_of, set_of, share_of, tight_of, wanted_name, wanted_names}
 use Rattle.mix_answer.specs.Shapes.{AreSets, FitsAuction, IsShare}
 use Rattle.mix_answer.specs.declared.refusal.Refusal.{Refusal}

@@ -4,9 +4,10 @@ use Rattle.std.specs.Fmt.{signed_decimal}
 use Rattle.std.specs.List.{flat_map, zip}
 use Rattle.mix_num.specs.declared.pair.Tight.{Tight}
 use Rattle.mix_text.specs.Auctions.{AuctionText}
-use Rattle.mix_text.specs.Bidders.{Named, name_at, names_at}
+use Rattle.mix_text.specs.Bidders.{Named, name_at}
 use Rattle.mix_text.specs.Formats.{has_order}
 use Rattle.mix_text.specs.Pages.{printed}
+use Rattle.mix_text.specs.SharedRows.{amounts_row, end_row, order_rows}
 use Rattle.mix_answer.specs.declared.outcome.Answer.{Answer}
 use Rattle.mix_answer.specs.declared.outcome.Outcome.{Outcome}
 use Rattle.mix_answer.specs.declared.outcome.Outcome.TheVariants.{Cleared, Refused}
@@ -25,14 +26,6 @@ version_of format = if has_order format then 2 else 1
 abbrev pub head_row : ℕ → List (List ℕ)
 head_row format = codes "outcome" ∷ signed_decimal (pos (version_of format)) ∷ []
 
--- the row of the tie order: the names of the bidders in it
-abbrev pub order_row : List (List ℕ) → List (List ℕ)
-order_row names = codes "order" ∷ names
-
--- this row, where the format states the order
-abbrev pub order_rows : AuctionText → List (List (List ℕ))
-order_rows a = if has_order a.format then order_row (names_at a.bidders a.order) ∷ [] else []
-
 -- the row of a refusal: the bidder's name, the two choices, the prices, and the facet weight there
 abbrev pub refusal_row : AuctionText → Refusal → List (List ℕ)
 refusal_row a r =
@@ -42,10 +35,6 @@ refusal_row a r =
 -- the row before those of an answer
 abbrev pub cleared_row : List (List ℕ)
 cleared_row = codes "cleared" ∷ []
-
--- a row of a word and a number for each good
-abbrev pub amounts_row : List ℕ → List ℤ → List (List ℕ)
-amounts_row word amounts = word ∷ map signed_decimal amounts
 
 -- the row of a share: the bidder's name, its bundle, and what it pays
 abbrev pub share_row : List ℕ → Share → List (List ℕ)
@@ -80,10 +69,6 @@ unfoldable pub answer_rows : AuctionText → Answer → List (List (List ℕ))
 answer_rows a answer =
     cleared_row ∷ amounts_row (codes "price") answer.prices.items
     ∷ (share_rows a.bidders answer.shares ++ amounts_row (codes "return") answer.returns.items ∷ tight_rows (bidders_goods a.goods a.bidders) answer.tights)
-
--- the last row
-abbrev pub end_row : List (List ℕ)
-end_row = codes "end" ∷ []
 
 -- the rows of the outcome itself
 abbrev pub inner_rows : AuctionText → Outcome → List (List (List ℕ))

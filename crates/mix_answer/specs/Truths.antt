@@ -3,8 +3,8 @@ use Rattle.std.specs.Prelude.{◌≡◌, ◌<◌, ◌+◌, ◌*◌, ℕ, ℤ, Li
 use Rattle.mix_num.specs.Orders.{place_at}
 use Rattle.mix_num.specs.Sums.{dot_of}
 use Rattle.mix_num.specs.declared.pair.Tight.{Tight}
-use Rattle.mix_clearing.specs.Certificates.{IsFirstTightPair, IsTightPair}
-use Rattle.mix_clearing.specs.Clearings.{IsSolution}
+use Rattle.mix_law.specs.Certificates.{IsFirstTightPair, IsTightPair}
+use Rattle.mix_law.specs.Clearings.{IsSolution}
 use Rattle.mix_text.specs.Auctions.{AuctionText}
 use Rattle.mix_answer.specs.Refusals.{AreConvex, IsTrueRefusal}
 use Rattle.mix_answer.specs.Utilities.{utilities_of}

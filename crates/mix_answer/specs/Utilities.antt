@@ -3,9 +3,9 @@ use Rattle.std.specs.Prelude.{ℕ, List, ℤ, length, map, Option, Some, None}
 use Rattle.std.specs.Int.RustNames.{unsigned_abs}
 use Rattle.mix_num.specs.Orders.{places}
 use Rattle.mix_num.specs.Vectors.{Vector}
-use Rattle.mix_bids.specs.Bids.{Book, total_weight, utility}
-use Rattle.mix_bids.specs.Caps.{capped_total, capped_utility, capped_utility_at}
-use Rattle.mix_bids.specs.Convexity.{IsConvexAtScales, utility_at}
+use Rattle.mix_bids.specs.Bids.{Book, total_weight}
+use Rattle.mix_bids.specs.Caps.{capped_total, scaled_utility_under, utility_under}
+use Rattle.mix_bids.specs.Convexity.{IsConvexAtScales}
 use Rattle.mix_bids.specs.declared.bid.Bid.{Bid}
 use Rattle.mix_text.specs.Auctions.{AuctionText}
 use Rattle.mix_text.specs.Bidders.{list_at}
@@ -23,22 +23,12 @@ entrant_at a k = record { list = list_at a.bidders k; cap = cap_at a.caps k }
 abbrev pub entrants_of : AuctionText → List Entrant
 entrants_of a = map (entrant_at a) (places (length a.bidders))
 
--- the indirect utility of bids under a cap, as a function of the prices: the capped utility, or where there is no cap that of the list
-abbrev pub utility_under : Option ℤ → List Bid → Vector → ℤ
-utility_under None bids = utility bids
-utility_under (Some cap) bids = capped_utility (unsigned_abs cap) bids
-
--- the same at each scale
-abbrev pub scaled_utility_under : Option ℤ → List Bid → ℕ → Vector → ℤ
-scaled_utility_under None bids = utility_at bids
-scaled_utility_under (Some cap) bids = capped_utility_at (unsigned_abs cap) bids
-
 -- how many units are bid for under a cap: the capped total, or where there is no cap the total of the list
 abbrev pub total_under : Option ℤ → List Bid → ℤ
 total_under None bids = total_weight bids
 total_under (Some cap) bids = capped_total (unsigned_abs cap) bids
 
--- a bidder's
+-- a bidder's indirect utility, and the same at each scale
 abbrev pub entrant_utility : Entrant → Vector → ℤ
 entrant_utility e = utility_under e.cap e.list.bids
 

@@ -6,9 +6,9 @@ ghost use Rattle.mix_answer.specs.Shapes.{HasShape};
 ghost use Rattle.mix_answer.specs.Outcomes.{inner_rows, outcome_text};
 
 use crate::outcome::Outcome;
-use crate::rows::{add_answer, add_end, add_head, add_order, add_refusal};
+use crate::rows::{add_answer, add_head, add_refusal};
 use mix_num::Memory;
-use mix_text::{Auction, Page};
+use mix_text::{Auction, Page, add_end, add_order};
 use std::alloc::Global;
 
 // Adds the rows of the outcome itself.

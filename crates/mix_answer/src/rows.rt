@@ -1,20 +1,18 @@
 // The rows of an outcome's text, one function for each kind.
-ghost use Rattle.std.specs.Prelude.{◌≡◌, ◌<◌, ◌≤◌, ◌+◌, ◌*◌, ◌++◌, ◌∷◌, [], true, length, map, drop, slice_index_or, OnOk};
-ghost use Rattle.std.specs.Fmt.{signed_decimal};
+ghost use Rattle.std.specs.Prelude.{◌≡◌, ◌<◌, ◌≤◌, ◌+◌, ◌*◌, ◌++◌, ◌∷◌, [], length, drop, slice_index_or, OnOk};
 ghost use Rattle.mix_text.specs.AuctionTexts.{auction_text};
-ghost use Rattle.mix_text.specs.Bidders.{name_at, names_at};
-ghost use Rattle.mix_text.specs.Pages.{is_printable, line_of, printed};
-ghost use Rattle.mix_text.specs.Spelling.{is_name};
+ghost use Rattle.mix_text.specs.Bidders.{name_at};
+ghost use Rattle.mix_text.specs.Pages.{line_of, printed};
 ghost use Rattle.mix_answer.specs.Shapes.{FitsAuction, HasAnswerShape};
-ghost use Rattle.mix_answer.specs.Outcomes.{amounts_row, answer_rows, bidders_goods, choice_text, cleared_row, end_row, head_row, order_rows, refusal_row, share_row, share_rows, tight_row, tight_rows, with_each};
+ghost use Rattle.mix_answer.specs.Outcomes.{answer_rows, bidders_goods, choice_text, cleared_row, head_row, refusal_row, share_row, share_rows, tight_row, tight_rows, with_each};
 
 use crate::outcome::Answer;
 use crate::refusal::Refusal;
 use crate::row_reading::version;
 use crate::share::{Share, Shares};
 use crate::tights::Tights;
-use mix_num::{Bundle, Memory, Tight};
-use mix_text::{Auction, Page, has_order};
+use mix_num::{Memory, Tight};
+use mix_text::{Auction, Page, add_amounts};
 
 /// Adds the name of the bidder at a place, from 0, to the open row.
 #[tactic(auto, using(mix_text::proofs::AuctionNames::bidder_named))]
@@ -57,30 +55,6 @@ pub fn add_head(page: &mut Page, format: u8) -> Result<(), Memory>
     page.end_row()
 }
 
-// Adds the names of the bidders in tie order to the open row.
-#[tactic(auto, using(mix_text::proofs::AuctionNames::bidder_served))]
-fn add_names(page: &mut Page, auction: &Auction) -> Result<(), Memory>
-    ensures { OnOk result (page.new ≡ record page.old { fields = page.old.fields ++ names_at auction.now.bidders auction.now.order }) }
-{
-    for turn in 0..auction.order.count() {
-        add_bidder(page, auction, auction.order.place(turn))?;
-    }
-    Ok(())
-}
-
-/// Adds the row of the tie order, where the format states it.
-pub fn add_order(page: &mut Page, auction: &Auction) -> Result<(), Memory>
-    requires { page.old.fields ≡ [] }
-    ensures { OnOk result (page.new ≡ record { ended = page.old.ended ++ printed (order_rows (auction_text auction.now)); fields = [] }) }
-{
-    if !has_order(auction.format) {
-        return Ok(());
-    }
-    page.text(b"order")?;
-    add_names(page, auction)?;
-    page.end_row()
-}
-
 /// Adds the row of a refusal.
 pub fn add_refusal(page: &mut Page, auction: &Auction, refusal: &Refusal) -> Result<(), Memory>
     requires closed { page.old.fields ≡ [] }
@@ -102,17 +76,6 @@ fn add_cleared(page: &mut Page) -> Result<(), Memory>
     ensures { OnOk result (page.new ≡ record { ended = page.old.ended ++ line_of cleared_row; fields = [] }) }
 {
     page.text(b"cleared")?;
-    page.end_row()
-}
-
-// Adds a row of a word and numbers.
-fn add_amounts(page: &mut Page, word: &[u8], amounts: &Bundle) -> Result<(), Memory>
-    requires closed { page.old.fields ≡ [] }
-    requires word { is_printable word.now ≡ true }
-    ensures { OnOk result (page.new ≡ record { ended = page.old.ended ++ line_of (amounts_row word.now amounts.now.items); fields = [] }) }
-{
-    page.text(word)?;
-    page.numbers(amounts)?;
     page.end_row()
 }
 
@@ -207,13 +170,4 @@ pub fn add_answer(page: &mut Page, auction: &Auction, answer: &Answer) -> Result
     add_shares(page, auction, &answer.shares)?;
     add_amounts(page, b"return", &answer.returns)?;
     add_tights(page, auction, &answer.tights)
-}
-
-/// Adds the last row.
-pub fn add_end(page: &mut Page) -> Result<(), Memory>
-    requires { page.old.fields ≡ [] }
-    ensures { OnOk result (page.new ≡ record { ended = page.old.ended ++ line_of end_row; fields = [] }) }
-{
-    page.text(b"end")?;
-    page.end_row()
 }

@@ -45,9 +45,7 @@ impl Shares {
         ensures ok { OnOk result (self.new ≡ self.old ++ share ∷ []) }
         ensures err { OnErr result (self.new ≡ self.old) }
     {
-        let Ok(()) = self.shares.push(share) else {
-            return Err(Memory);
-        };
+        self.shares.push(share)?;
         Ok(())
     }
 

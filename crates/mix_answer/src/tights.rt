@@ -36,9 +36,7 @@ impl Tights {
         ensures ok { OnOk result (self.new ≡ self.old ++ tight ∷ []) }
         ensures err { OnErr result (self.new ≡ self.old) }
     {
-        let Ok(()) = self.tights.push(tight) else {
-            return Err(Memory);
-        };
+        self.tights.push(tight)?;
         Ok(())
     }
 

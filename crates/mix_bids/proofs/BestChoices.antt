@@ -17,12 +17,12 @@ pub leaves_not : (o : Option ℤ) (c g v : ℤ) → o ≡ Some v → leaves o c 
 leaves_not o c g v e f h = false≢true (sym f ∙ leaves_offer o c g v e h)
 
 -- what a best choice offers
-pub record Best (o : Option ℤ) (c g : ℤ) : Type 0 where
+pub record OffersGain (o : Option ℤ) (c g : ℤ) : Type 0 where
   pub value : ℤ
   pub offered : o ≡ Some value
   pub leaves : value -ℤ c ≡ g
 
-pub leaves-true : (o : Option ℤ) (c g : ℤ) → leaves o c g ≡ true → Best o c g
+pub leaves-true : (o : Option ℤ) (c g : ℤ) → leaves o c g ≡ true → OffersGain o c g
 leaves-true None c g h = absurd (false≢true h)
 leaves-true (Some v) c g h = record { value = v; offered = refl; leaves = (int_eq_is (v -ℤ c) g).0 h }
 

@@ -7,7 +7,6 @@ use Rattle.std.proofs.lemmas.Nat.{one_shl, or_lt}
 use Rattle.std.proofs.lemmas.Nat.Bits.{bit_at_set_same, bit_at_set_other, bit_at_and, bit_at_or, bit_at_not, bit_at-lt, bit_at_above}
 use Rattle.std.specs.Int.{bit_at}
 use Rattle.mix_num.specs.Vectors.{members}
-use Rattle.mix_bids.specs.Offers.{pair}
 use Rattle.mix_bids.proofs.Cases.{by_test}
 
 with_bit : (n c k : ℕ) (b : Bool) → c ≤ 8 → eqb k c ≡ b → members (bit_or n (1 * 2 ^ c % 65536)) k ≡ cond b true (members n k)
@@ -25,16 +24,6 @@ set_bit n c l k = with_bit n c k (eqb k c) l refl
 -- a set below the choice m stays below it
 pub set_bit-lt : (n c m : ℕ) → c ≤ 8 → c < m → n < 2 ^ m → bit_or n (1 * 2 ^ c % 65536) < 2 ^ m
 set_bit-lt n c m l q h = or_lt m n (1 * 2 ^ c % 65536) h (omega (arith, one_shl c 16 (omega arith), pow-lt {i = c} {j = m} q))
-
--- two choices put into the empty set are their pair
-pub two_choices : (i j k : ℕ) (z : Bool) → z ≡ false → cond (eqb k j) true (cond (eqb k i) true z) ≡ pair i j k
-two_choices i j k z e = at (eqb k i) (eqb k j)
-  where
-    at : (a b : Bool) → cond b true (cond a true z) ≡ cond a true b
-    at true true = refl
-    at true false = refl
-    at false true = refl
-    at false false = e
 
 -- the members of either number
 pub members_or : (a b k : ℕ) → members (bit_or a b) k ≡ cond (members a k) true (members b k)

@@ -9,12 +9,12 @@ use Rattle.std.specs.Ordering.{int_eq}
 use Rattle.mix_num.specs.Vectors.{Vector, Choices, bit, plus}
 use Rattle.mix_num.proofs.Products.{*ℤ-difference}
 use Rattle.mix_bids.specs.Bids.{total_weight, weight_where}
-use Rattle.mix_bids.specs.Caps.{ArePositive, IsPositive, capped_total, capped_utility, units}
+use Rattle.mix_bids.specs.Caps.{ArePositive, IsPositive, capped_total, capped_utility, left_over, units}
 use Rattle.mix_bids.specs.Offers.{best, within}
 use Rattle.mix_bids.specs.declared.bid.Bid.{Bid}
 use Rattle.mix_bids.proofs.Falls.{gain_falls}
 use Rattle.mix_bids.proofs.Lengths.{AreOver, first_over, rest_over}
-use Rattle.mix_bids.proofs.PositiveBids.{count_is, gain_of, left_over, rest-units, weight_is}
+use Rattle.mix_bids.proofs.PositiveBids.{count_is, gain_of, rest-units, weight_is}
 use Rattle.mix_bids.proofs.Thresholds.{above-units, capped_by, reached, told_by}
 use Rattle.mix_bids.proofs.Units.{length-units, lifted-units, lifted_sum, units_fall}
 

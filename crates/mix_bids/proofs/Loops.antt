@@ -47,9 +47,6 @@ top_least (b ∷ bs) i = raised (offer b.values.items i) (top_value bs i) (top_l
 pub top_start : (bs : List Bid) (i : ℕ) → int_max (pos 0) (top_value bs i) ≡ top_value bs i
 top_start bs i = let h = top_least bs i in omega (arith, ints, clamps)
 
-pub top_end : (bs : List Bid) (i k : ℕ) (g total : ℤ) → length bs ≤ k → pos 0 ≤ℤ g → int_max g (top_value (drop k bs) i) ≡ total → g ≡ total
-top_end bs i k g total l p h = let e = ap (λ z. top_value z i) (drop_of_length-le bs l) in omega (arith, ints, clamps)
-
 top_swap : (o : Option ℤ) (g t : ℤ) → int_max (better o (pos 0) g) t ≡ int_max g (better o (pos 0) t)
 top_swap None g t = refl
 top_swap (Some v) g t = omega (arith, ints, clamps)

@@ -1,15 +1,15 @@
 -- Bids of positive weight: their units, and what these gain.
-use Rattle.std.proofs.Common.{◌≡◌, ℕ, suc, ◌-◌, Bool, true, false, cond, List, [], ◌∷◌, ℤ, pos, negsuc, ◌+ℤ◌, ◌-ℤ◌, ◌≤ℤ◌, refl, arith}
+use Rattle.std.proofs.Common.{◌≡◌, ℕ, suc, Bool, true, false, cond, List, [], ◌∷◌, ℤ, pos, negsuc, ◌+ℤ◌, ◌-ℤ◌, ◌≤ℤ◌, refl, arith}
 use Rattle.std.proofs.lemmas.Int.{ints}
 use Rattle.std.proofs.lemmas.List.Elements.{All-head, All-tail}
 use Rattle.std.specs.Int.RustNames.{unsigned_abs}
 use Rattle.mix_num.specs.Vectors.{Vector, with_null}
 use Rattle.mix_bids.specs.Offers.{best, gain, pair, same_set}
 use Rattle.mix_bids.specs.Bids.{NoneNegative, total_weight, weight_where}
-use Rattle.mix_bids.specs.Caps.{ArePositive, IsPositive, units}
+use Rattle.mix_bids.specs.Caps.{ArePositive, IsPositive, count, left_over, units}
 use Rattle.mix_bids.specs.declared.bid.Bid.{Bid}
 use Rattle.mix_bids.proofs.Gains.{gain_is}
-use Rattle.mix_bids.proofs.Units.{AreAtLeast, at_least_times, count, length-units, rest}
+use Rattle.mix_bids.proofs.Units.{AreAtLeast, at_least_times, length-units, rest}
 
 pub weight_is : (w : ℤ) → pos 1 ≤ℤ w → pos (unsigned_abs w) ≡ w
 weight_is (pos m) h = refl
@@ -43,10 +43,6 @@ gain_of x b = gain b.values.items x
 pub units_least : (bs : List Bid) (x : Vector) → AreAtLeast (pos 0 -ℤ x 0) (units (gain_of x) bs)
 units_least [] x = tt
 units_least (b ∷ bs) x = at_least_times (pos 0 -ℤ x 0) (unsigned_abs b.weight) (gain b.values.items x) (units (gain_of x) bs) ((gain_is b.values.items x).upper 0 (pos 0) refl) (units_least bs x)
-
--- how many units aren't among the first c
-abbrev pub left_over : ℕ → List Bid → ℕ
-left_over c bs = count bs - c
 
 pub rest-units : (c : ℕ) (bs : List Bid) (x : Vector) → rest c (units (gain_of x) bs) ≡ left_over c bs
 rest-units c bs x = let l = length-units (gain_of x) bs in omega arith

@@ -1,16 +1,15 @@
 -- The weights of the bids by best set: put together bid by bid, and summed over the subsets of a set.
-use Rattle.std.proofs.Common.{◌≡◌, ◌≢◌, ◌∙◌, ℕ, zero, suc, ◌+◌, ◌^◌, ◌<◌, ◌≤◌, Bool, true, false, cond, not, eqb, ltb, List, [], ◌∷◌, ℤ, pos, ◌+ℤ◌, ◌-ℤ◌, ◌≤ℤ◌, refl, arith, sym, ap, ap₂, bit_and, w16, ◌-◌, replicate, length}
+use Rattle.std.proofs.Common.{◌≡◌, ◌≢◌, ◌∙◌, ℕ, zero, suc, ◌+◌, ◌^◌, ◌<◌, ◌≤◌, Bool, true, false, cond, not, eqb, ltb, List, [], ◌∷◌, ℤ, pos, ◌+ℤ◌, ◌-ℤ◌, ◌≤ℤ◌, refl, arith, sym, ap, ap₂, replicate, length}
 use Rattle.std.proofs.Math.Nat.{pow-le-pow_right}
 use Rattle.std.proofs.lemmas.Int.{ints, clamps}
 use Rattle.std.proofs.lemmas.Bool.{eqb-true, eqb-false, ltb-true, ltb-false, false≢true}
-use Rattle.std.proofs.lemmas.Nat.Bits.{bit_at_not, bit_at-lt}
-use Rattle.std.specs.Int.{bit_at, bit_not, int_max}
+use Rattle.std.specs.Int.{int_max}
 use Rattle.mix_num.specs.Vectors.{Vector, Choices, members, outside, sum_to}
 use Rattle.mix_num.specs.Ranges.{Lies}
 use Rattle.mix_num.specs.Subsets.{lies_in, sizes, subset_sum}
 use Rattle.mix_num.specs.Tables.{number_of}
 use Rattle.mix_num.proofs.Additions.{sum_to-difference, sum_to-grows, sum_to-one, sum_to-same, sum_to-zero}
-use Rattle.mix_num.proofs.Masks.{and_members, mask_below, mask_members, mask_of, same_members, whole_members}
+use Rattle.mix_num.proofs.Masks.{mask_below, mask_members, mask_of, same_members}
 use Rattle.mix_bids.specs.Offers.{Offers, best, same_set, within}
 use Rattle.mix_bids.specs.Bids.{best_weight, total_weight, weight_meeting, weight_where, weight_within}
 use Rattle.mix_bids.specs.declared.bid.Bid.{Bid}
@@ -190,24 +189,6 @@ pub meeting_is : (n : ℕ) (s : Choices) (rest : ℕ) (bs : List Bid) (x : Vecto
 meeting_is n s rest bs x h =
     weight_rest (λ b. within (suc n) (best b.values.items x) (outside s)) bs
     ∙ ap (λ (v : ℤ). total_weight bs -ℤ v) (weight_same (λ b. within (suc n) (best b.values.items x) (outside s)) (λ b. within (suc n) (best b.values.items x) (members rest)) bs (λ b. sym (within_same (suc n) (best b.values.items x) (members rest) (outside s) h)))
-
--- the choices 0 to n outside a set, by their bits
-pub outside_members : (n s : ℕ) → n ≤ 8 → s < 2 ^ 16 → (k : ℕ) → k < suc n → members (bit_and (bit_not w16 s) (2 ^ (n + 1) - 1)) k ≡ not (members s k)
-outside_members n s few small k h =
-    and_members (bit_not w16 s) (2 ^ (n + 1) - 1) k
-    ∙ ap (λ (b : Bool). cond (members (bit_not w16 s) k) b false) (whole_members n k (omega arith))
-    ∙ flat (members (bit_not w16 s) k)
-    ∙ ap (λ (v : ℕ). eqb v 1) (bit_at_not w16 s k small (omega arith))
-    ∙ turned (bit_at s k) (bit_at-lt s k)
-  where
-    flat : (b : Bool) → cond b true false ≡ b
-    flat true = refl
-    flat false = refl
-
-    turned : (v : ℕ) → v < 2 → eqb (1 - v) 1 ≡ not (eqb v 1)
-    turned zero h = refl
-    turned (suc zero) h = refl
-    turned (suc (suc v)) h = absurd (omega arith)
 
 -- one turn over the sets: each before this one has its amount added, and now this one too
 pub one_done : (old now next : List ℤ) (amount : ℕ → ℤ) (s own : ℕ) (by : ℤ) → own ≡ s → by ≡ amount s → number_of next own ≡ number_of now own +ℤ by → ((k : ℕ) → k ≢ own → number_of next k ≡ number_of now k)

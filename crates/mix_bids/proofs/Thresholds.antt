@@ -8,9 +8,9 @@ use Rattle.std.specs.Int.RustNames.{unsigned_abs}
 use Rattle.mix_bids.specs.Bids.{weight_where}
 use Rattle.mix_bids.specs.declared.bid.Bid.{Bid}
 use Rattle.mix_num.specs.Vectors.{Vector}
-use Rattle.mix_bids.specs.Caps.{ArePositive, IsPositive, capped_utility, placed, placed_times, sum_of_first, units}
+use Rattle.mix_bids.specs.Caps.{ArePositive, IsPositive, capped_utility, left_over, placed, placed_times, sum_of_first, units}
 use Rattle.mix_bids.proofs.Units.{AreAtLeast, AreAtMost, IsFalling, lifted, lifted-units, lifted_sum, none_lifted, rest, rest-all, rest-more, rest-none, units_fall}
-use Rattle.mix_bids.proofs.PositiveBids.{gain_of, left_over, rest-units, units_least, weight_is}
+use Rattle.mix_bids.proofs.PositiveBids.{gain_of, rest-units, units_least, weight_is}
 
 -- 1 where a number passes the threshold
 abbrev pub passes : ℤ → ℤ → ℕ

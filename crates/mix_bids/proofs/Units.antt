@@ -7,7 +7,7 @@ use Rattle.std.specs.Int.{int_min, int_max}
 use Rattle.std.specs.Int.RustNames.{unsigned_abs}
 use Rattle.mix_num.proofs.Products.{sum-*ℤ}
 use Rattle.mix_bids.specs.declared.bid.Bid.{Bid}
-use Rattle.mix_bids.specs.Caps.{placed, placed_times, sum_of_first, units}
+use Rattle.mix_bids.specs.Caps.{count, placed, placed_times, sum_of_first, units}
 
 -- none of the numbers is above m
 abbrev pub AreAtMost : ℤ → List ℤ → Type 0
@@ -92,11 +92,6 @@ lifted-times z (suc m) g us =
 pub units_fall : (key : Bid → ℤ) (bs : List Bid) → IsFalling (units key bs)
 units_fall key [] = tt
 units_fall key (b ∷ bs) = falling_times (unsigned_abs b.weight) (key b) (units key bs) (units_fall key bs)
-
--- how many units there are
-abbrev pub count : List Bid → ℕ
-count [] = 0
-count (b ∷ bs) = unsigned_abs b.weight + count bs
 
 pub length-units : (key : Bid → ℤ) (bs : List Bid) → length (units key bs) ≡ count bs
 length-units key [] = refl

@@ -4,6 +4,7 @@ use Rattle.std.specs.List.{list_any}
 use Rattle.std.specs.Option.{is_some}
 use Rattle.std.specs.Int.{int_max}
 use Rattle.std.specs.Ordering.{int_eq}
+use Rattle.mix_num.specs.Sellers.{IsAmount}
 use Rattle.mix_num.specs.Vectors.{Vector, Choices, outside}
 
 -- for each good its value, or none where the good is left out
@@ -66,9 +67,9 @@ pair i j = λ k. cond (eqb k i) true (eqb k j)
 abbrev pub offers_some : Offers → Bool
 offers_some vs = list_any is_some vs
 
--- nothing, or a value from 0 to 1,000,000
+-- nothing, or a value in its range
 abbrev pub IsOffer : Option ℤ → Type 0
-IsOffer o = (v : ℤ) → o ≡ Some v → (pos 0 ≤ℤ v) × (v ≤ℤ pos 1000000)
+IsOffer o = (v : ℤ) → o ≡ Some v → IsAmount v
 
 -- an offer for each of n goods, and some good is offered
 pub record AreOffers (n : ℕ) (vs : Offers) : Type 0 where

@@ -8,7 +8,7 @@ ghost use Rattle.mix_bids.specs.Bids.{best_weight, total_weight, utility, weight
 
 use crate::best::best_set;
 use crate::list::BidList;
-use mix_num::{Prices, Set, SetTable};
+use mix_num::{Prices, Set, SetTable, outside};
 
 impl BidList {
     /// Puts in place of each number of the table the sum of the weights of the bids whose best set is its set. It takes no memory.
@@ -95,13 +95,4 @@ fn weights_within(list: &BidList, prices: &Prices) -> SetTable
     list.best_weights(prices, &mut weights);
     weights.subset_sums(list.goods());
     weights
-}
-
-/// The choices 0 to n outside a set.
-pub fn outside(set: Set, n: usize) -> Set
-    requires { n ≤ 8 }
-    ensures members { (k : ℕ) → k < suc n → members result k ≡ not (members set k) }
-    ensures within { result < 2 ^ suc n }
-{
-    Set::from_bits(!set.bits() & Set::whole(n).bits())
 }

@@ -9,7 +9,7 @@ ghost use Rattle.mix_bids.specs.Bids.{IsBid};
 
 use crate::bid::Bid;
 use crate::choices::{set_where, with_choice};
-use mix_num::{Prices, Set};
+use mix_num::{PRICE_BOUND, Prices, Set};
 
 /// Of the choices of a bid looked at so far, the null choice among them, the greatest value less price, and those that have it.
 #[derive(Clone, Copy, Drop)]
@@ -36,7 +36,7 @@ impl Best {
     fn with(self, choice: usize, offer: Option<i64>, price: i64) -> Best
         requires choice { choice ≤ 8 }
         requires offer { IsOffer offer }
-        requires price { Lies 4000000 price }
+        requires price { Lies PRICE_BOUND price }
         requires gain { (pos 0 ≤ℤ self.gain) × (self.gain ≤ℤ pos 5000000) }
         ensures gain { result.gain ≡ better_of offer price self.gain }
         ensures range { (pos 0 ≤ℤ result.gain) × (result.gain ≤ℤ pos 5000000) }

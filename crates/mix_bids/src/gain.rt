@@ -5,12 +5,12 @@ ghost use Rattle.mix_num.specs.Ranges.{ArePrices, Lies};
 ghost use Rattle.mix_bids.specs.Offers.{better as better_of, gain as gain_of, AreOffers, IsOffer};
 
 use crate::bid::Values;
-use mix_num::Prices;
+use mix_num::{PRICE_BOUND, Prices};
 
 /// The greater of a gain so far and what the offer leaves at the price.
 pub fn better(offer: Option<i64>, price: i64, gain: i64) -> i64
     requires offer { IsOffer offer }
-    requires price { Lies 4000000 price }
+    requires price { Lies PRICE_BOUND price }
     requires gain { (pos 0 ≤ℤ gain) × (gain ≤ℤ pos 5000000) }
     ensures value { result ≡ better_of offer price gain }
     ensures range { (pos 0 ≤ℤ result) × (result ≤ℤ pos 5000000) }

@@ -7,6 +7,7 @@ ghost use Rattle.mix_bids.specs.Levels.{has_lead, other as other_of};
 ghost use Rattle.mix_bids.specs.Leads.{lead as lead_between, lead_of, negative_lead as negative_lead_of};
 
 use crate::bid::{Bid, Values};
+use mix_num::MOST_VALUE;
 
 /// What is offered for a choice: 0 for the null choice, else the value of the good, if there is the good and it has one.
 pub fn offer(values: &Values, choice: usize) -> Option<i64>
@@ -28,7 +29,7 @@ fn margin(greater: Option<i64>, lesser: Option<i64>) -> Option<i64>
     requires greater { IsOffer greater }
     requires lesser { IsOffer lesser }
     ensures value { result ≡ lead_between greater lesser }
-    ensures range { (v : ℤ) → result ≡ Some v → Lies 1000000 v }
+    ensures range { (v : ℤ) → result ≡ Some v → Lies MOST_VALUE v }
 {
     match (greater, lesser) {
         (Some(greater), Some(lesser)) => Some(greater - lesser),
@@ -42,7 +43,7 @@ pub fn lead(bid: &Bid, choice: usize, over: usize) -> Option<i64>
     requires over { over ≤ length bid.now.values.items }
     requires bid { IsBid (length bid.now.values.items) bid.now }
     ensures value { result ≡ lead_of bid.now choice over }
-    ensures range { (v : ℤ) → result ≡ Some v → Lies 1000000 v }
+    ensures range { (v : ℤ) → result ≡ Some v → Lies MOST_VALUE v }
 {
     margin(offer(&bid.values, choice), offer(&bid.values, over))
 }
@@ -53,7 +54,7 @@ pub fn negative_lead(bid: &Bid, choice: usize, over: usize) -> Option<i64>
     requires over { over ≤ length bid.now.values.items }
     requires bid { IsBid (length bid.now.values.items) bid.now }
     ensures value { result ≡ negative_lead_of bid.now choice over }
-    ensures range { (v : ℤ) → result ≡ Some v → Lies 1000000 v }
+    ensures range { (v : ℤ) → result ≡ Some v → Lies MOST_VALUE v }
 {
     if bid.weight < 0 {
         lead(bid, choice, over)
@@ -67,7 +68,7 @@ pub fn has_difference(bid: &Bid, first: usize, second: usize, difference: i64) -
     requires first { first ≤ length bid.now.values.items }
     requires second { second ≤ length bid.now.values.items }
     requires bid { IsBid (length bid.now.values.items) bid.now }
-    requires difference { Lies 1000000 difference }
+    requires difference { Lies MOST_VALUE difference }
     ensures { result ≡ has_lead first second difference bid.now }
 {
     match lead(bid, first, second) {

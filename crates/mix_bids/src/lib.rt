@@ -16,7 +16,6 @@ mod sums;
 #[cfg(test)]
 mod tests;
 
-pub use all_sets::outside;
 pub use best::{Best, best_choices, best_set};
 pub use bid::{Bid, Values};
 pub use leads::{has_difference, lead, negative_lead, other};

@@ -2,6 +2,7 @@
 ghost use Rattle.std.specs.Prelude.{◌≡◌, ◌≤◌, ◌<◌, ◌↔◌, min, ◌++◌, ◌∷◌, [], length, pos, ◌≤ℤ◌, ◌-ℤ◌, true, false, int_lt, OnErr, OnOk, IfOk};
 ghost use Rattle.mix_num.specs.Vectors.{members, minus, plus, with_null};
 ghost use Rattle.mix_num.specs.Ranges.{ArePrices, Lies};
+ghost use Rattle.mix_num.specs.Sellers.{IsAmount};
 ghost use Rattle.mix_bids.specs.Cells.{cells as cells_of};
 ghost use Rattle.mix_bids.specs.Bids.{facet_weight as facet_weight_of, top_value, total_weight, utility as utility_of, weight_meeting, weight_within, AreBids, IsBid};
 
@@ -74,9 +75,7 @@ impl BidList {
         ensures ok { OnOk result (self.new ≡ record self.old { bids = self.old.bids ++ bid ∷ [] }) }
         ensures err { OnErr result (self.new ≡ self.old) }
     {
-        let Ok(()) = self.bids.push(bid) else {
-            return Err(Memory);
-        };
+        self.bids.push(bid)?;
         Ok(())
     }
 
@@ -89,9 +88,7 @@ impl BidList {
         ensures err { OnErr result (self.new ≡ self.old) }
     {
         let tally = tally_with(self.goods, &self.bids, &self.kept, self.cells, &bid);
-        let Ok(()) = self.kept.push(tally.counts) else {
-            return Err(Memory);
-        };
+        self.kept.push(tally.counts)?;
         let Ok(()) = self.bids.push(bid) else {
             self.kept.pop();
             return Err(Memory);
@@ -104,9 +101,7 @@ impl BidList {
     pub fn copy(&self, alloc: Global) -> Result<BidList, Memory>
         ensures { IfOk result (λ list. list ≡ self.now) }
     {
-        let Ok(kept) = Vec::from_slice(alloc, &self.kept) else {
-            return Err(Memory);
-        };
+        let kept = Vec::from_slice(alloc, &self.kept)?;
         let bids = copies(alloc, &self.bids)?;
         Ok(BidList {
             goods: self.goods,
@@ -187,7 +182,7 @@ impl BidList {
     pub fn top(&self, good: usize) -> i64
         requires { (1 ≤ good) × (good ≤ self.now.goods) }
         ensures value { result ≡ top_value self.now.bids good }
-        ensures range { (pos 0 ≤ℤ result) × (result ≤ℤ pos 1000000) }
+        ensures range { IsAmount result }
     {
         let mut greatest = 0;
         for bid in self.bids() {
@@ -233,9 +228,7 @@ fn copies(alloc: Global, bids: &[Bid]) -> Result<Vec<Bid>, Memory>
 {
     let mut copies = Vec::new(alloc);
     for bid in bids {
-        let Ok(()) = copies.push(bid.copy()) else {
-            return Err(Memory);
-        };
+        copies.push(bid.copy())?;
     }
     Ok(copies)
 }

@@ -9,7 +9,7 @@ ghost use Rattle.mix_bids.specs.Reaches.{gap as gap_of, reach_of};
 use crate::bid::{Bid, Values};
 use crate::gain::better;
 use crate::list::BidList;
-use mix_num::{Prices, Set};
+use mix_num::{PRICE_BOUND, Prices, Set};
 
 impl BidList {
     /// How far the prices of a set of goods may rise together until a bid whose best set lies in the set finds a choice outside it
@@ -80,7 +80,7 @@ impl Gains {
     /// With one more good looked at, which is in the set or outside it.
     fn with(self, inside: bool, offer: Option<i64>, price: i64) -> Gains
         requires offer { IsOffer offer }
-        requires price { Lies 4000000 price }
+        requires price { Lies PRICE_BOUND price }
         requires inside { (pos 0 ≤ℤ self.inside) × (self.inside ≤ℤ pos 5000000) }
         requires outside { (pos 0 ≤ℤ self.outside) × (self.outside ≤ℤ pos 5000000) }
         ensures inside { result.inside ≡ better_of (cond inside offer None) price self.inside }

@@ -8,7 +8,7 @@ use Rattle.std.specs.declared.cmp.Ordering.TheVariants.{Less, Equal, Greater}
 use Rattle.std.specs.Ordering.{is_eq}
 use Rattle.std.proofs.lemmas.Int.{ints}
 use Rattle.std.proofs.lemmas.Bool.{false≢true}
-use Rattle.std.proofs.lemmas.List.Elements.{All-cons, All-contains, All-head, All-nil, All-tail, All-weaker, Contains-append_cases, Contains-append_right, Contains-get_or}
+use Rattle.std.proofs.lemmas.List.Elements.{All-cons, All-contains, All-head, All-nil, All-tail, Contains-append_cases, Contains-append_right, Contains-get_or}
 use Rattle.std.proofs.lemmas.Map.Keys.{sorted_head, sorted_tail}
 use Rattle.mix_num.specs.Vectors.{Vector}
 use Rattle.mix_num.proofs.Equalities.{int_eq_is}
@@ -100,15 +100,6 @@ pair_weight f ts is v =
     by_test (int_eq (f v) (pos 0))
     (λ t. none_found f v ts (e.0 t) is.weights is.some ∙ sym (e.0 t))
     (λ t. found f v ts (gathered_terms ts is.order is.some) is.weights (is.every v (λ z. false≢true (sym t ∙ e.1 z))))
-
--- pairs of the same weights
-pub pairs_same : (f g : Offers → ℤ) (ts : List Term) → ((v : Offers) → f v ≡ g v) → ArePairsOf f ts → ArePairsOf g ts
-pairs_same f g ts e is = record {
-  weights = All-weaker (λ t. t.weight ≡ f t.values.items) (λ t. t.weight ≡ g t.values.items) (λ t w. w ∙ e t.values.items) ts is.weights;
-  some = is.some;
-  every = λ v h. is.every v (λ z. h (sym (e v) ∙ z));
-  order = is.order;
-}
 
 -- ---- two canonical lists
 abbrev pub as_term : Offers × ℤ → Term

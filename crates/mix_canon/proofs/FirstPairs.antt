@@ -1,5 +1,5 @@
 -- The first pair of the differences of two lists' weights has the first value vector whose weights differ.
-use Rattle.std.proofs.Common.{◌≡◌, ◌≢◌, ℕ, ℤ, pos, ◌-ℤ◌, List, [], ◌∷◌, arith, sym, ◌∙◌, ◌⊎◌, inl, inr, subst, Some, None, slice_get}
+use Rattle.std.proofs.Common.{◌≡◌, ◌≢◌, ℕ, ℤ, pos, ◌-ℤ◌, List, [], ◌∷◌, arith, sym, ◌∙◌, ◌⊎◌, inl, inr, subst, Some, slice_get}
 use Rattle.std.proofs.lemmas.Int.{ints}
 use Rattle.std.proofs.lemmas.List.Elements.{All-head}
 use Rattle.mix_bids.specs.Offers.{AreOffers, Offers}
@@ -15,10 +15,6 @@ use Rattle.mix_canon.proofs.Readings.{offers_or_nothing}
 -- what a vector weighs in the first list, less what it weighs in the second
 abbrev pub difference : List Bid → List Bid → Offers → ℤ
 difference bs cs v = weight_of v bs -ℤ weight_of v cs
-
--- without pairs there is no difference
-no_pairs : (bs cs : List Bid) → ArePairsOf (difference bs cs) [] → (v : Offers) → weight_of v bs ≡ weight_of v cs
-no_pairs bs cs is v = let e = pair_weight (difference bs cs) [] is v in omega (arith, ints)
 
 apart : (bs cs : List Bid) (t : Term) (ts : List Term) → ArePairsOf (difference bs cs) (t ∷ ts) → weight_of t.values.items bs ≢ weight_of t.values.items cs
 apart bs cs t ts is e =
@@ -38,10 +34,6 @@ pair_first bs cs t ts is = record {
 pub first_pair : (bs cs : List Bid) (ds : List Term) (t : Term) → Some t ≡ slice_get ds 0 → ArePairsOf (difference bs cs) ds → IsFirstVector bs cs t.values.items
 first_pair bs cs [] t e is = absurd (cc)
 first_pair bs cs (d ∷ ds) t e is = let q : d ≡ t = cc in subst (λ (u : Term). IsFirstVector bs cs u.values.items) q (pair_first bs cs d ds is)
-
-pub no_pair : (bs cs : List Bid) (ds : List Term) → None ≡ slice_get ds 0 → ArePairsOf (difference bs cs) ds → (v : Offers) → weight_of v bs ≡ weight_of v cs
-no_pair bs cs [] e is = no_pairs bs cs is
-no_pair bs cs (d ∷ ds) e is = absurd (cc)
 
 -- that vector is a bid's
 pub first_offers : (n : ℕ) (bs cs : List Bid) (v : Offers) → AreBids n bs → AreBids n cs → IsFirstVector bs cs v → AreOffers n v

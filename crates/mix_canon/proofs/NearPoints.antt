@@ -1,13 +1,12 @@
 -- Prices near a value vector's own numbers, as the code makes them.
-use Rattle.std.proofs.Common.{◌≡◌, ℕ, zero, suc, ◌+◌, ◌*◌, ◌/◌, ◌^◌, ◌<◌, List, ℤ, pos, ◌+ℤ◌, ◌-ℤ◌, Bool, true, false, cond, refl, arith, sym, ap, subst, ◌∙◌, get_or, length, All, Option, Some, None, pow-suc}
+use Rattle.std.proofs.Common.{◌≡◌, ℕ, suc, ◌+◌, ◌*◌, ◌/◌, ◌^◌, ◌<◌, List, ℤ, pos, ◌+ℤ◌, ◌-ℤ◌, Bool, true, false, cond, refl, arith, sym, ap, subst, ◌∙◌, get_or, length, All, Option, Some, None, pow-suc}
 use Rattle.std.proofs.lemmas.Int.{ints}
 use Rattle.std.proofs.lemmas.List.Elements.{All-from_get_or, All-get_or, All-map, All-weaker}
 use Rattle.std.proofs.lemmas.Bool.{eqb-false, ne_eqb}
 use Rattle.std.proofs.lemmas.Nat.Bits.{bit_at-lt, bit_at_lowest}
 use Rattle.std.specs.Int.{bit_at}
-use Rattle.mix_num.specs.Vectors.{Agree, Vector, bit, members, with_null}
-use Rattle.mix_num.specs.Ranges.{ArePrices, Lies}
-use Rattle.mix_num.specs.Moves.{AreEntries, IsSetOfGoods, lowered, raised}
+use Rattle.mix_num.specs.Vectors.{Agree, Vector, members, with_null}
+use Rattle.mix_num.specs.Moves.{IsSetOfGoods, lowered, raised}
 use Rattle.mix_bids.specs.Bids.{AreBids, utility}
 use Rattle.mix_bids.specs.declared.bid.Bid.{Bid}
 use Rattle.mix_bids.proofs.Lengths.{over_of}
@@ -23,9 +22,6 @@ pub near_down : (a : ℤ) (b : Bool) → IsOwn a → IsNear (a -ℤ cond b (pos 
 near_down a true i = (omega (arith, ints, i.0), omega (arith, ints, i.1))
 near_down a false i = (omega (arith, ints, i.0), omega (arith, ints, i.1))
 
-near_lies : (a : ℤ) → IsNear a → Lies 4000000 a
-near_lies a i = (omega (arith, ints, i.0), omega (arith, ints, i.1))
-
 pub near_raised : (p q : List ℤ) (set : ℕ) → All IsOwn p → length q ≡ length p → Agree (length p) (with_null q) (raised (with_null p) (members set) (pos 1)) → All IsNear q
 near_raised p q set own size a = All-from_get_or IsNear q (pos 0) (λ k l.
     let m : k < length p = omega arith in
@@ -35,17 +31,6 @@ pub near_lowered : (p q : List ℤ) (set : ℕ) → All IsOwn p → length q ≡
 near_lowered p q set own size a = All-from_get_or IsNear q (pos 0) (λ k l.
     let m : k < length p = omega arith in
     subst IsNear (sym (a (suc k) (omega arith))) (near_down (get_or p k (pos 0)) (members set (suc k)) (All-get_or IsOwn p k (pos 0) m own)))
-
-pub own_prices_lie : (p : List ℤ) → All IsOwn p → ArePrices (length p) p
-own_prices_lie p own = (refl, All-from_get_or (Lies 4000000) p (pos 0) (λ k l. let i = All-get_or IsOwn p k (pos 0) l own in (omega (arith, ints, i.0), omega (arith, ints, i.1))))
-
-pub raised_entries : (p : List ℤ) (set : ℕ) → All IsOwn p → members set 0 ≡ false → AreEntries (length p) (raised (with_null p) (members set) (pos 1))
-raised_entries p set own null zero l = let e = ap bit null in (omega (arith, ints), omega (arith, ints))
-raised_entries p set own null (suc k) l = near_lies (raised (with_null p) (members set) (pos 1) (suc k)) (near_up (get_or p k (pos 0)) (members set (suc k)) (All-get_or IsOwn p k (pos 0) (omega arith) own))
-
-pub lowered_entries : (p : List ℤ) (set : ℕ) → All IsOwn p → members set 0 ≡ false → AreEntries (length p) (lowered (with_null p) (members set) (pos 1))
-lowered_entries p set own null zero l = let e = ap bit null in (omega (arith, ints), omega (arith, ints))
-lowered_entries p set own null (suc k) l = near_lies (lowered (with_null p) (members set) (pos 1) (suc k)) (near_down (get_or p k (pos 0)) (members set (suc k)) (All-get_or IsOwn p k (pos 0) (omega arith) own))
 
 -- lists that agree at prices agree at the same prices told otherwise
 pub agree_moved : (n : ℕ) (bs cs : List Bid) → AreBids n bs → AreBids n cs → (x y : Vector) → Agree n x y → utility bs x ≡ utility cs x → utility bs y ≡ utility cs y

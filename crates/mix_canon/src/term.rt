@@ -42,9 +42,7 @@ impl TermList {
     pub(crate) fn push(&mut self, term: Term) -> Result<(), Memory>
         ensures { OnOk result (self.new ≡ self.old ++ term ∷ []) }
     {
-        let Ok(()) = self.terms.push(term) else {
-            return Err(Memory);
-        };
+        self.terms.push(term)?;
         Ok(())
     }
 

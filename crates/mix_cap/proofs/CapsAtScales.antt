@@ -14,10 +14,10 @@ use Rattle.mix_bids.specs.Convexity.{bid_at, offers_at}
 use Rattle.mix_bids.specs.declared.bid.Bid.{Bid}
 use Rattle.mix_bids.proofs.Falls.{gain_falls}
 use Rattle.mix_bids.proofs.Lengths.{AreOver, first_over, rest_over}
-use Rattle.mix_bids.proofs.Multiples.{gain-times, length-offers_at, over_at, times, total_at}
+use Rattle.mix_bids.proofs.Multiples.{gain-times, length-offers_at, offers_once, over_at, times, total_at}
 use Rattle.mix_law.specs.Members.{KeepsLocal, fall_of}
 use Rattle.mix_law.proofs.Midpoint.{middle_of_doubles}
-use Rattle.mix_bids.specs.Caps.{ArePositive, IsConvexCapped, IsPositive, capped_total, capped_utility_at, placed, placed_times, sum_of_first, units}
+use Rattle.mix_bids.specs.Caps.{ArePositive, IsConvexCapped, IsPositive, capped_total, capped_utility, capped_utility_at, placed, placed_times, sum_of_first, units}
 use Rattle.mix_law.specs.Scales.{KeepsScales}
 use Rattle.mix_law.proofs.Outside.{rho-fall}
 use Rattle.mix_bids.proofs.BestMultiples.{best-multiple, gain-multiple}
@@ -69,6 +69,14 @@ first-difference : (d : ℕ) (f g : ℤ → ℤ) (c : ℕ) (us : List ℤ) → s
 first-difference d f g zero us = omega (arith, ints)
 first-difference d f g (suc c) [] = omega (arith, ints)
 first-difference d f g (suc c) (u ∷ us) = let h = first-difference d f g c us in let s = *ℤ-sum (pos d) (f u) (sum_of_first c (map f us)) in omega (arith, ints)
+
+-- at the scale 1 it is the capped utility
+units-once : (x : Vector) (bs : List Bid) → units (gain_of x) (map (bid_at 1) bs) ≡ units (gain_of x) bs
+units-once x [] = refl
+units-once x (b ∷ bs) = ap₂ (λ (vs : Offers) (us : List ℤ). placed_times (unsigned_abs b.weight) (gain vs x) us) (offers_once b.values.items) (units-once x bs)
+
+pub capped_once : (c : ℕ) (bs : List Bid) (x : Vector) → capped_utility_at c bs 1 x ≡ capped_utility c bs x
+capped_once c bs x = ap (sum_of_first c) (units-once x bs)
 
 multiples_grow : (e : ℕ) → IsGrowing (λ u. pos e *ℤ u)
 multiples_grow e a b h = product_grows (pos e) a b (omega (arith, ints)) h

@@ -5,9 +5,9 @@ use Rattle.std.specs.Int.{int_min}
 use Rattle.std.specs.Int.RustNames.{unsigned_abs}
 use Rattle.mix_num.specs.Vectors.{Vector}
 use Rattle.mix_bids.specs.Bids.{total_weight, weight_where}
-use Rattle.mix_bids.specs.Caps.{ArePositive}
+use Rattle.mix_bids.specs.Caps.{ArePositive, left_over}
 use Rattle.mix_bids.specs.declared.bid.Bid.{Bid}
-use Rattle.mix_bids.proofs.PositiveBids.{count_is, gain_of, left_over}
+use Rattle.mix_bids.proofs.PositiveBids.{count_is, gain_of}
 use Rattle.mix_cap.specs.Lots.{above, lots_of, sum_over}
 use Rattle.mix_cap.specs.declared.lots.Lot.{Lot}
 use Rattle.mix_cap.proofs.LotSums.{above_lots}

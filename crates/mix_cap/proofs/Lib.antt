@@ -2,3 +2,4 @@ pub mod CapsAtScales
 mod Chosen
 mod Counts
 mod LotSums
+pub mod UnderCaps

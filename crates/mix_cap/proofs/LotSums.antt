@@ -1,5 +1,5 @@
 -- Sums over the lots of a list, and one turn of a loop over lots.
-use Rattle.std.proofs.Common.{◌≡◌, ℕ, suc, ◌+◌, ◌≤◌, ◌<◌, Bool, false, cond, List, [], ◌∷◌, ◌++◌, ℤ, pos, ◌+ℤ◌, ◌*ℤ◌, ◌≤ℤ◌, refl, arith, sym, ap, ap₂, ◌∙◌, subst, length, int_lt, get_or, drop, drop-cons, drop_of_length-le, add-one, take, All}
+use Rattle.std.proofs.Common.{◌≡◌, ℕ, suc, ◌+◌, ◌≤◌, ◌<◌, Bool, false, cond, List, [], ◌∷◌, ◌++◌, ℤ, pos, ◌+ℤ◌, ◌*ℤ◌, ◌≤ℤ◌, refl, arith, sym, ap, ap₂, ◌∙◌, subst, length, int_lt, get_or, drop, drop-cons, add-one, take, All}
 use Rattle.std.proofs.lemmas.Int.{ints}
 use Rattle.std.proofs.lemmas.List.Elements.{All-head, All-same, All-tail}
 use Rattle.std.proofs.lemmas.List.{map-append, take_more}
@@ -31,9 +31,6 @@ sum_step number lots k d s t total l e h =
     let u : sum_over number (drop k lots) ≡ number (get_or lots k d) +ℤ sum_over number (drop (suc k) lots) = ap (sum_over number) (drop-cons lots k d l) in
     let y = ap (λ (z : ℕ). sum_over number (drop z lots)) (add-one k) in
     omega (arith, ints)
-
-pub sum_end : (number : Lot → ℤ) (lots : List Lot) (k : ℕ) (s total : ℤ) → length lots ≤ k → s +ℤ sum_over number (drop k lots) ≡ total → s ≡ total
-sum_end number lots k s total l h = let e = ap (sum_over number) (drop_of_length-le lots l) in omega (arith, ints)
 
 passes_not : (z g : ℤ) → g ≤ℤ z → int_lt z g ≡ false
 passes_not z g h = grind (arith, ints)

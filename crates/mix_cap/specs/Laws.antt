@@ -11,14 +11,14 @@ use Rattle.mix_num.specs.Vectors.{Vector, bit, only, plus}
 use Rattle.mix_num.proofs.Products.{*ℤ-sum, *ℤ-difference}
 use Rattle.mix_bids.specs.Offers.{Offers, better, gain, gain_from, later, offer}
 use Rattle.mix_bids.specs.Bids.{AreBids, top_value, total_weight, utility}
-use Rattle.mix_bids.specs.Caps.{ArePositive, IsPositive, capped_total, capped_utility, sum_of_first, units}
+use Rattle.mix_bids.specs.Caps.{ArePositive, IsPositive, capped_total, capped_utility, left_over, sum_of_first, units}
 use Rattle.mix_bids.specs.declared.bid.Bid.{Bid}
 use Rattle.mix_bids.proofs.Far.{utility_far}
 use Rattle.mix_bids.proofs.Gains.{gain_is, offered_within}
 use Rattle.mix_bids.proofs.Lengths.{AreOver, first_over, over_of, rest_over}
-use Rattle.mix_bids.proofs.PositiveBids.{count_is, gain_of, left_over, none_negative_of_positive, rest-units, units_least, weight_is}
+use Rattle.mix_bids.proofs.PositiveBids.{count_is, gain_of, none_negative_of_positive, rest-units, units_least, weight_is}
 use Rattle.mix_bids.proofs.Units.{AreAtLeast, AreAtMost, at_most_times, first_at_most, length-units, lifted-units, lifted_sum, one_more, threshold, units_fall}
-use Rattle.mix_law.specs.Members.{IsConvex, KeepsLocal, excess}
+use Rattle.mix_law.specs.Members.{IsLNatural, KeepsLocal, excess}
 use Rattle.mix_law.proofs.LeastNulls.{IsLeastBelow, at_null, least_far, least_keeps}
 use Rattle.mix_law.proofs.Ranges.{excess_covers, excess_nonnegative}
 use Rattle.mix_validity.specs.Laws.{list_keeps}
@@ -182,8 +182,8 @@ capped_size n c bs o p x null =
     (r.0, omega (arith, ints, r.1))
 
 -- a capped bidder is a member: its total is the capped total, and its tops are the greatest values offered
-pub capped_convex : (n c : ℕ) (bs : List Bid) → AreBids n bs → ArePositive bs → IsConvex n (capped_utility c bs) (capped_total c bs) (top_value bs)
-capped_convex n c bs are p =
+pub capped_l_natural : (n c : ℕ) (bs : List Bid) → AreBids n bs → ArePositive bs → IsLNatural n (capped_utility c bs) (capped_total c bs) (top_value bs)
+capped_l_natural n c bs are p =
     let o = over_of n bs are in
     let keeps = capped_keeps n c bs o p in
     record {

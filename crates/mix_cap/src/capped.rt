@@ -1,14 +1,15 @@
 // Bidders with a cap on their units in all goods together.
 ghost use Rattle.std.specs.Prelude.{◌≡◌, ◌≤◌, ◌<◌, ◌^◌, ◌*ℤ◌, ℕ, suc, length, pos, ◌≤ℤ◌};
 ghost use Rattle.mix_num.specs.Vectors.{members};
+ghost use Rattle.mix_num.specs.declared.limits.TheConstants.{MOST_UNITS};
 ghost use Rattle.mix_bids.specs.Bids.{AreBids};
 ghost use Rattle.mix_bids.specs.Caps.{ArePositive};
 
 use crate::lots::{lifted, lots_at, threshold_of};
 use crate::tallies::fallen;
-use mix_bids::{BidList, outside};
+use mix_bids::BidList;
 use mix_law::Convex;
-use mix_num::{Prices, Set, SetTable};
+use mix_num::{MOST_UNITS, Prices, Set, SetTable, outside};
 
 /// A list of bids of positive weight, of whose units at most `cap` are served: those with the greatest gains.
 #[derive(Drop)]
@@ -20,7 +21,7 @@ pub struct Capped {
     ghost few_bids: { length list.bids ≤ 400 },
     ghost proper: { AreBids list.goods list.bids },
     ghost positive: { ArePositive list.bids },
-    ghost range: { (pos 0 ≤ℤ cap) × (cap ≤ℤ pos 1000000) },
+    ghost range: { (pos 0 ≤ℤ cap) × (cap ≤ℤ pos MOST_UNITS) },
 }
 
 impl Capped {
@@ -28,15 +29,14 @@ impl Capped {
     ghost use Rattle.mix_num.specs.Ranges.{ArePrices, HaveRoom, Lies};
     ghost use Rattle.mix_num.specs.Tables.{number_of};
     ghost use Rattle.mix_num.specs.Vectors.{members, with_null};
-    ghost use Rattle.mix_bids.specs.Caps.{capped_total};
-    ghost use Rattle.mix_bids.proofs.PositiveBids.{left_over};
+    ghost use Rattle.mix_bids.specs.Caps.{capped_total, left_over};
     ghost use Rattle.mix_law.specs.Members.{fall_of};
     ghost use Rattle.mix_cap.specs.Cappeds.{book_of, cap_of, units_cap, utility_of};
 
     /// The bidder with this list and this cap, from 0 to 1,000,000. All weights are positive.
     pub fn new(list: BidList, cap: i64) -> Capped
         requires weights { ArePositive list.bids }
-        requires cap { (pos 0 ≤ℤ cap) × (cap ≤ℤ pos 1000000) }
+        requires cap { (pos 0 ≤ℤ cap) × (cap ≤ℤ pos MOST_UNITS) }
         ensures list { book_of result ≡ list }
         ensures cap { cap_of result ≡ cap }
     {
@@ -56,7 +56,7 @@ impl Capped {
     /// The cap, from 0 to 1,000,000.
     pub fn cap(&self) -> i64
         ensures value { result ≡ cap_of self.now }
-        ensures range { (pos 0 ≤ℤ result) × (result ≤ℤ pos 1000000) }
+        ensures range { (pos 0 ≤ℤ result) × (result ≤ℤ pos MOST_UNITS) }
     {
         self.cap
     }
@@ -64,7 +64,7 @@ impl Capped {
     /// How many units are served: the cap, or all where they are fewer.
     fn served(&self) -> i64
         ensures value { result ≡ capped_total (units_cap self.now) (book_of self.now).bids }
-        ensures range { (pos 0 ≤ℤ result) × (result ≤ℤ pos 1000000) }
+        ensures range { (pos 0 ≤ℤ result) × (result ≤ℤ pos MOST_UNITS) }
     {
         self.list.total().min(self.cap)
     }
@@ -124,20 +124,20 @@ impl Convex for Capped {
     ghost use Rattle.mix_bids.specs.Bids.{top_value};
     ghost use Rattle.mix_bids.specs.Caps.{capped_total};
     ghost use Rattle.mix_cap.specs.Cappeds.{units_cap, utility_of};
-    ghost use Rattle.mix_cap.specs.Laws.{capped_convex};
+    ghost use Rattle.mix_cap.specs.Laws.{capped_l_natural};
     ghost use Rattle.std.specs.Prelude.{pos};
 
-    ghost size = { λ capped. capped.list.goods };
+    ghost goods = { λ capped. capped.list.goods };
 
-    ghost weight = { λ capped. capped_total (units_cap capped) capped.list.bids };
+    ghost total = { λ capped. capped_total (units_cap capped) capped.list.bids };
 
-    ghost ceiling = { λ capped. top_value capped.list.bids };
+    ghost top = { λ capped. top_value capped.list.bids };
 
     ghost function = { utility_of };
 
-    ghost span = { λ capped x set. pos 1 };
+    ghost reach = { λ capped x set. pos 1 };
 
-    ghost convex = { λ capped. capped_convex capped.list.goods (units_cap capped) capped.list.bids capped.proper capped.positive };
+    ghost l_natural = { λ capped. capped_l_natural capped.list.goods (units_cap capped) capped.list.bids capped.proper capped.positive };
 
     fn goods(&self) -> usize {
         self.list.goods()

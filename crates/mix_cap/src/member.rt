@@ -13,19 +13,19 @@ pub enum Member {
 
 /// The part that the member is.
 impl Convex for Member {
-    ghost use Rattle.mix_cap.specs.MemberLaws.{ceiling_of, function_of, member_convex, size_of, span_of, weight_of};
+    ghost use Rattle.mix_cap.specs.MemberLaws.{function_of, goods_of, member_l_natural, reach_of, top_of, total_of};
 
-    ghost size = { size_of };
+    ghost goods = { goods_of };
 
-    ghost weight = { weight_of };
+    ghost total = { total_of };
 
-    ghost ceiling = { ceiling_of };
+    ghost top = { top_of };
 
     ghost function = { function_of };
 
-    ghost span = { span_of };
+    ghost reach = { reach_of };
 
-    ghost convex = { member_convex };
+    ghost l_natural = { member_l_natural };
 
     fn goods(&self) -> usize {
         match self {

@@ -11,7 +11,7 @@ ghost use Rattle.mix_bids.specs.Caps.{ArePositive};
 ghost use Rattle.mix_bids.specs.Offers.{best, gain, within};
 
 use mix_bids::{BidList, best_choices, weight_where};
-use mix_num::{Prices, Set, SetTable};
+use mix_num::{MOST_UNITS, Prices, Set, SetTable};
 
 /// For each set of the choices 0 to n by how much the gains fall where the prices of the set rise by one: for each unit that gains more
 /// than the threshold and whose best set lies in the set by one; and of the units that gain just the threshold, by one for each that falls
@@ -19,7 +19,7 @@ use mix_num::{Prices, Set, SetTable};
 pub fn fallen(list: &BidList, prices: &Prices, threshold: u32, served: i64) -> SetTable
     requires prices { ArePrices list.now.goods prices.now.items }
     requires positive { ArePositive list.now.bids }
-    requires served { (pos 0 ≤ℤ served) × (served ≤ℤ pos 1000000) }
+    requires served { (pos 0 ≤ℤ served) × (served ≤ℤ pos MOST_UNITS) }
     ensures falls { (set : ℕ) → set < 2 ^ suc list.now.goods → let x = with_null prices.now.items in let bs = list.now.bids in
         number_of result set ≡ weight_of_bids (λ b. int_lt (pos threshold) (gain b.values.items x) && within (suc list.now.goods) (best b.values.items x) (members set)) bs
         +ℤ int_max (pos 0) (weight_of_bids (λ b. int_eq (gain b.values.items x) (pos threshold) && within (suc list.now.goods) (best b.values.items x) (members set)) bs

@@ -6,10 +6,14 @@ use Rattle.std.proofs.lemmas.List.Elements.{All-get_or}
 use Rattle.mix_num.specs.Sellers.{AreAmounts}
 use Rattle.mix_num.specs.Shares.{sum_at}
 use Rattle.mix_num.specs.Orders.{IsOrder}
+use Rattle.mix_num.specs.Vectors.{Vector}
 use Rattle.mix_law.specs.Members.{KeepsLaws}
-use Rattle.mix_clearing.specs.Clearings.{bidder_utility}
+use Rattle.mix_cap.proofs.UnderCaps.{under_keeps_laws}
+use Rattle.mix_law.specs.Clearings.{bidder_utility}
 use Rattle.mix_clearing.specs.Utilities.{KeepLaws}
 use Rattle.mix_text.specs.Auctions.{AuctionText, IsAuction}
+use Rattle.mix_text.specs.Bidders.{list_at}
+use Rattle.mix_text.specs.Caps.{cap_at}
 use Rattle.mix_text.proofs.TieOrders.{is_order}
 use Rattle.mix_answer.specs.Refusals.{AreConvex}
 use Rattle.mix_answer.specs.Shapes.{HasAnswerShape, IsShare}
@@ -17,7 +21,8 @@ use Rattle.mix_answer.specs.Truths.{bundles_of}
 use Rattle.mix_answer.specs.Utilities.{utilities_of}
 use Rattle.mix_answer.specs.declared.outcome.Answer.{Answer}
 use Rattle.mix_answer.specs.declared.share.Share.{Share}
-use Rattle.mix_answer.proofs.Entrants.{length-utilities, utilities_keep_laws}
+use Rattle.mix_answer.proofs.Entrants.{length-utilities, utility-there}
+use Rattle.mix_answer.proofs.TrueRefusals.{list_at_ok}
 use Rattle.mix_check.specs.Reasons.{bundle_of, payment_of}
 
 -- ---- orders
@@ -28,7 +33,10 @@ order-ordered a sound = subst (λ (m : ℕ). IsOrder m a.order) (sym (length-uti
 
 -- utilities of convex bidders keep the laws of members
 pub laws-at : (a : AuctionText) → IsAuction a → AreConvex a → (k : ℕ) → k < length a.bidders → KeepsLaws (length a.goods) (bidder_utility (utilities_of a) k)
-laws-at a sound convex k l = (utilities_keep_laws a sound convex k l).laws
+laws-at a sound convex k l =
+    let is = list_at_ok a k sound l in
+    subst (λ (f : Vector → ℤ). KeepsLaws (length a.goods) f) (sym (utility-there a k l))
+    (under_keeps_laws (length a.goods) (cap_at a.caps k) (list_at a.bidders k).bids is.bids is.few (λ c e. (sound.caps.range k c e, sound.caps.positive k c e)) (convex k l)).laws
 
 pub laws : (a : AuctionText) → IsAuction a → AreConvex a → KeepLaws (length a.supply) (utilities_of a)
 laws a sound convex k l =

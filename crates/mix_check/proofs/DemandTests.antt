@@ -7,9 +7,9 @@ use Rattle.mix_num.specs.Vectors.{Vector}
 use Rattle.mix_num.specs.Tables.{Fits, IsProper, number_of, share_in}
 use Rattle.mix_law.specs.Demands.{IsDemanded, IsTableOf, table_of}
 use Rattle.mix_law.proofs.Demanded.{demanded-where_fits, fits-where_demanded}
-use Rattle.mix_clearing.specs.Clearings.{bidder_utility}
+use Rattle.mix_law.specs.Clearings.{bidder_utility}
 use Rattle.mix_clearing.proofs.TableLists.{is-table_of}
-use Rattle.mix_cap.specs.MemberLaws.{function_of, size_of}
+use Rattle.mix_cap.specs.MemberLaws.{function_of, goods_of}
 use Rattle.mix_cap.specs.declared.member.Member.{Member}
 use Rattle.mix_text.specs.Auctions.{AuctionText, IsAuction}
 use Rattle.mix_answer.specs.Refusals.{AreConvex}
@@ -46,7 +46,7 @@ module _ (a : AuctionText) (answer : Answer) (sound : IsAuction a) (shape : HasA
   pub does_demand : Fits (length bundle) table bundle → IsDemanded n f answer.prices.items (bundle_of answer k)
   does_demand fits =
       subst (λ (b : List ℤ). IsDemanded n f answer.prices.items b) own
-      (demanded-where_fits (laws-at a sound convex k l).convex answer.prices.items table bundle shape.prices.0 size is (subst (λ (m : ℕ). Fits m table bundle) size fits))
+      (demanded-where_fits (laws-at a sound convex k l).l_natural answer.prices.items table bundle shape.prices.0 size is (subst (λ (m : ℕ). Fits m table bundle) size fits))
 
   -- and isn't where some set has too much
   pub over_demand : (set : ℕ) → ¬ Fits (length bundle) table bundle → number_of table set <ℤ share_in (length bundle) table bundle set
@@ -55,7 +55,7 @@ module _ (a : AuctionText) (answer : Answer) (sound : IsAuction a) (shape : HasA
       let same : table ≡ table_of n f answer.prices.items = is-table_of n f answer.prices.items table is in
       record {
         undemanded = λ demanded. misfits (subst (λ (m : ℕ). Fits m table bundle) (sym size)
-            (fits-where_demanded (laws-at a sound convex k l).convex answer.prices.items table bundle shape.prices.0 size is (subst (λ (b : List ℤ). IsDemanded n f answer.prices.items b) (sym own) demanded)));
+            (fits-where_demanded (laws-at a sound convex k l).l_natural answer.prices.items table bundle shape.prices.0 size is (subst (λ (b : List ℤ). IsDemanded n f answer.prices.items b) (sym own) demanded)));
         choices = ⊎_elim
             (λ (h : set < 2 ^ suc n). h)
             (λ (h : 2 ^ suc n ≤ set). absurd (misfits (record { size = refl; within = λ s q. least s (omega (arith, q, h, ap (λ (m : ℕ). 2 ^ suc m) size)) })))
@@ -69,7 +69,7 @@ module _ (a : AuctionText) (answer : Answer) (sound : IsAuction a) (shape : HasA
 
 -- the table of one bidder more
 pub one_more_table : (a : AuctionText) (prices : List ℤ) (k : ℕ) (tables now : List (List ℤ)) (table : List ℤ) (member : Member) → k < length a.bidders → StandsFor a k member
-    → IsTableOf (size_of member) (function_of member) prices table → IsProper (size_of member) table → now ≡ tables ++ table ∷ [] → AreTablesOfFirst a prices k tables → AreTablesOfFirst a prices (k + 1) now
+    → IsTableOf (goods_of member) (function_of member) prices table → IsProper (goods_of member) table → now ≡ tables ++ table ∷ [] → AreTablesOfFirst a prices k tables → AreTablesOfFirst a prices (k + 1) now
 one_more_table a prices k tables now table member l stands is proper added first = record {
   count = ap (λ (xs : List (List ℤ)). length xs) added ∙ length-append tables (table ∷ []) ∙ (let c = first.count in let e : length tables + 1 ≡ k + 1 = omega (arith, c) in e);
   are = λ j h. ⊎_elim

@@ -7,13 +7,13 @@ use Rattle.mix_bids.proofs.Lengths.{AreOver, over_of}
 use Rattle.mix_bids.proofs.PositiveBids.{none_negative_of_positive}
 use Rattle.mix_validity.proofs.ConvexLists.{none_negative_of}
 use Rattle.mix_cap.specs.Cappeds.{book_of, cap_of}
+use Rattle.mix_cap.proofs.UnderCaps.{capped_convex}
 use Rattle.mix_cap.specs.declared.capped.Capped.{Capped}
 use Rattle.mix_cap.specs.declared.member.Member.TheVariants.{Capped as CappedMember}
 use Rattle.mix_text.specs.Auctions.{AuctionText, IsAuction}
 use Rattle.mix_text.specs.Bidders.{list_at}
 use Rattle.mix_text.specs.Caps.{cap_at}
 use Rattle.mix_answer.specs.Utilities.{Entrant, IsConvexEntrant, entrant_at, entrant_utility}
-use Rattle.mix_answer.proofs.Entrants.{capped_entrant}
 use Rattle.mix_answer.proofs.TrueRefusals.{list_at_ok}
 use Rattle.mix_check.specs.Tests.{StandsFor}
 
@@ -33,6 +33,9 @@ none_negative a k sound l convex =
     none_negative_under book.goods (cap_at a.caps k) book (subst (λ (n : ℕ). AreOver n book.bids) (sym is.goods) (over_of (length a.goods) book.bids is.bids)) (sound.caps.positive k) convex
 
 -- ---- a bidder with a cap
+pub capped_entrant : (a : AuctionText) (k : ℕ) (cap : ℤ) → IsAuction a → k < length a.bidders → cap_at a.caps k ≡ Some cap → IsConvexEntrant (entrant_at a k)
+capped_entrant a k cap sound l e = capped_convex (length a.goods) (cap_at a.caps k) cap (list_at a.bidders k).bids (list_at_ok a k sound l).bids (sound.caps.positive k cap e) e
+
 pub capped_stands : (a : AuctionText) (k : ℕ) (cap : ℤ) → IsAuction a → k < length a.bidders → cap_at a.caps k ≡ Some cap → (capped : Capped) → book_of capped ≡ list_at a.bidders k → cap_of capped ≡ cap → StandsFor a k (CappedMember capped)
 capped_stands a k cap sound l capped_at capped same cap_is = record {
   convex = capped_entrant a k cap sound l capped_at;

@@ -5,7 +5,7 @@ use Rattle.mix_num.specs.Vectors.{with_null}
 use Rattle.mix_num.specs.Sums.{dot_of}
 use Rattle.mix_law.specs.Demands.{IsDemanded}
 use Rattle.mix_market.specs.Lyapunov.{lyapunov}
-use Rattle.mix_clearing.specs.Clearings.{bidder_utility}
+use Rattle.mix_law.specs.Clearings.{bidder_utility}
 use Rattle.mix_text.specs.Auctions.{AuctionText}
 use Rattle.mix_answer.specs.Utilities.{utilities_of}
 use Rattle.mix_answer.specs.declared.outcome.Answer.{Answer}

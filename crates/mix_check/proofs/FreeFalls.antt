@@ -12,7 +12,7 @@ use Rattle.mix_market.specs.Lyapunov.{lyapunov}
 use Rattle.mix_market.specs.Lowerings.{CanFall}
 use Rattle.mix_text.specs.Auctions.{AuctionText}
 use Rattle.mix_answer.specs.Utilities.{utilities_of}
-use Rattle.mix_check.specs.declared.tables.Tables.{Tables}
+use Rattle.mix_check.specs.declared.tables.AllTables.{AllTables}
 use Rattle.mix_check.specs.Reasons.{FallsFreely}
 use Rattle.mix_check.specs.Tests.{AreTablesAt}
 use Rattle.mix_answer.proofs.Entrants.{length-utilities}
@@ -40,7 +40,7 @@ pub above-choices : (n set : ℕ) (r p : List ℤ) → members set 0 ≡ false �
 above-choices n set r p null h zero l m = absurd (false≢true (sym null ∙ m))
 above-choices n set r p null h (suc k) l m = h k (omega (arith, l)) m
 
-module _ (a : AuctionText) (prices : List ℤ) (tables : Tables) (are : AreTablesAt a prices tables) (set : ℕ) (goods : IsSetOfGoods (length a.goods) set) where
+module _ (a : AuctionText) (prices : List ℤ) (tables : AllTables) (are : AreTablesAt a prices tables) (set : ℕ) (goods : IsSetOfGoods (length a.goods) set) where
   below : set < 2 ^ suc (length a.goods)
   below = subst (λ (m : ℕ). set < 2 ^ m) (let e : length a.goods + 1 ≡ suc (length a.goods) = omega arith in e) goods.0
 

@@ -7,7 +7,7 @@ use Rattle.mix_num.specs.Ranges.{Lies}
 use Rattle.mix_num.specs.Sellers.{IsAmount}
 use Rattle.mix_num.specs.Tables.{number_of}
 use Rattle.mix_num.specs.declared.pair.Tight.{Tight}
-use Rattle.mix_clearing.specs.Certificates.{tables_at}
+use Rattle.mix_law.specs.Certificates.{tables_at}
 use Rattle.mix_text.specs.Auctions.{AuctionText, IsAuction}
 use Rattle.mix_answer.specs.Shapes.{AreSets, HasAnswerShape}
 use Rattle.mix_answer.specs.Truths.{bundles_of, pair_of}
@@ -15,7 +15,7 @@ use Rattle.mix_answer.specs.Utilities.{utilities_of}
 use Rattle.mix_answer.specs.declared.outcome.Answer.{Answer}
 use Rattle.mix_answer.specs.declared.share.Share.{Share}
 use Rattle.mix_check.specs.Reasons.{IsNotTight, bundle_of, number_at}
-use Rattle.mix_check.specs.Tests.{HasTightPair, IsTurn}
+use Rattle.mix_check.specs.Tests.{AreAtTurn, HasTightPair}
 use Rattle.mix_check.proofs.AuctionFacts.{bundle-read}
 use Rattle.mix_check.proofs.Truths.{bundle-in_turn}
 
@@ -54,7 +54,7 @@ module _ (a : AuctionText) (answer : Answer) (sound : IsAuction a) (shape : HasA
   mine = bundle-in_turn a answer sound shape k bidder in_turn (sym served)
 
   -- what is worked out is the bidder's number of the good's pair
-  pub bound-is : (table floor : List ℤ) → IsTurn a answer k table floor → (pair : Tight) → pair ≡ pair_of (length a.goods) answer bidder j → AreSets (length a.goods) pair → (share : Share) → share ≡ get_or answer.shares bidder share
+  pub bound-is : (table floor : List ℤ) → AreAtTurn a answer k table floor → (pair : Tight) → pair ≡ pair_of (length a.goods) answer bidder j → AreSets (length a.goods) pair → (share : Share) → share ≡ get_or answer.shares bidder share
       → (number : ℤ) → number ≡ number_of table pair.upper → Lies 4000000000 number → (place : ℕ) → place ≡ pair.lower
       → (bound : ℤ) → bound ≡ numbered (to_z w64 (of_z w64 number)) (to_z w64 (of_z w64 (get_or floor place (pos 0)))) share.bundle.items pair → Lies 9000000000000 bound
       → to_z w64 (of_z w64 bound) ≡ number_at a answer k j

@@ -13,8 +13,8 @@ use Rattle.mix_num.specs.Tables.{IsProper, number_of, share_in}
 use Rattle.mix_num.specs.Ranges.{Lies}
 use Rattle.mix_num.specs.Pairs.{floor_at, shares_in}
 use Rattle.mix_law.specs.Demands.{IsTableOf, table_of}
-use Rattle.mix_clearing.specs.Certificates.{tables_at}
-use Rattle.mix_clearing.specs.Clearings.{bidder_utility}
+use Rattle.mix_law.specs.Certificates.{tables_at}
+use Rattle.mix_law.specs.Clearings.{bidder_utility}
 use Rattle.mix_clearing.proofs.TableLists.{is-table_of}
 use Rattle.mix_text.specs.Auctions.{AuctionText, IsAuction}
 use Rattle.mix_answer.specs.Shapes.{HasAnswerShape}
@@ -22,8 +22,8 @@ use Rattle.mix_answer.specs.Truths.{bundles_of}
 use Rattle.mix_answer.specs.Utilities.{utilities_of}
 use Rattle.mix_answer.specs.declared.outcome.Answer.{Answer}
 use Rattle.mix_answer.specs.declared.share.Share.{Share}
-use Rattle.mix_check.specs.declared.tables.Tables.{Tables}
-use Rattle.mix_check.specs.Tests.{AreTablesAt, AreTablesOfFirst, HaveSums, IsTurn, LieWithin, rows_of, spare_at}
+use Rattle.mix_check.specs.declared.tables.AllTables.{AllTables}
+use Rattle.mix_check.specs.Tests.{AreAtTurn, AreTablesAt, AreTablesOfFirst, HaveSums, LieWithin, rows_of, spare_at}
 use Rattle.mix_check.proofs.TableSums.{number-range, proper-read, rows-sum}
 use Rattle.mix_check.proofs.WordSums.{lies-wider}
 use Rattle.mix_check.specs.Reasons.{bundle_of}
@@ -37,7 +37,7 @@ pub spare-start : (n : ℕ) (rows : List (List ℤ)) (supply : List ℤ) (bundle
 spare-start n rows supply bundles set = omega (arith, ints)
 
 -- so what is written first is what is left then
-pub start-is : (n : ℕ) (tables : Tables) (order : List ℕ) → IsOrder (length tables.bidders.items) order → HaveSums n tables → (supply : List ℤ) (set : ℕ) → set < 2 ^ suc n → (null written : ℤ)
+pub start-is : (n : ℕ) (tables : AllTables) (order : List ℕ) → IsOrder (length tables.bidders.items) order → HaveSums n tables → (supply : List ℤ) (set : ℕ) → set < 2 ^ suc n → (null written : ℤ)
     → written ≡ sum_in (null ∷ supply) set -ℤ (number_of tables.sum set +ℤ number_of tables.seller set) → null ≡ supply_null n (rows_of order tables) supply
     → written ≡ spare_at n (rows_of order tables) supply [] 0 set
 start-is n tables order ordered have supply set l null written e same =
@@ -112,7 +112,7 @@ bidders-are a prices tables sound are = ext_get_or [] tables (map (λ f. table_o
         ∙ sym (get_or-map (λ f. table_of (length a.supply) f prices) (utilities_of a) k (λ x. pos 0) [] (omega (arith, h, few)))
 
 -- the tables that are kept are, in tie order, those of all members
-pub rows-are : (a : AuctionText) (prices : List ℤ) (tables : Tables) → IsAuction a → AreTablesAt a prices tables
+pub rows-are : (a : AuctionText) (prices : List ℤ) (tables : AllTables) → IsAuction a → AreTablesAt a prices tables
     → tables_at (utilities_of a) a.supply a.reserve prices a.order ≡ rows_of a.order tables
 rows-are a prices tables sound are =
     ap (λ (lists : List (List ℤ)). in_order a.order lists ++ table_of (length a.supply) (seller_gain a.supply a.reserve) prices ∷ [])
@@ -122,11 +122,11 @@ rows-are a prices tables sound are =
     (subst (λ (n : ℕ). IsTableOf n (seller_gain a.supply a.reserve) prices tables.seller) (sym sound.supply.0) are.seller)))
 
 -- as many as there are members
-pub rows-count : (order : List ℕ) (tables : Tables) → length (rows_of order tables) ≡ length order + 1
+pub rows-count : (order : List ℕ) (tables : AllTables) → length (rows_of order tables) ≡ length order + 1
 rows-count order tables = length-append (in_order order tables.bidders.items) (tables.seller ∷ []) ∙ ap (λ (n : ℕ). n + 1) (length-map order (λ k. get_or tables.bidders.items k []))
 
 -- the k-th row
-pub row-at : (order : List ℕ) (tables : Tables) (k : ℕ) → k < length order → get_or (rows_of order tables) k [] ≡ get_or tables.bidders.items (place_at order k) []
+pub row-at : (order : List ℕ) (tables : AllTables) (k : ℕ) → k < length order → get_or (rows_of order tables) k [] ≡ get_or tables.bidders.items (place_at order k) []
 row-at order tables k l =
     let size = length-map order (λ k. get_or tables.bidders.items k []) in
     get_or_append_left (in_order order tables.bidders.items) (tables.seller ∷ []) [] k (omega (arith, l, size)) ∙ get-in_order tables.bidders.items order k l
@@ -150,7 +150,7 @@ take-turn n rows supply bundles k set table bundle l h own is size spare given n
     omega (arith, ints, needed, take, share, g)
 
 -- ---- the turn of a bidder, from the table and the share that are read
-module _ (a : AuctionText) (answer : Answer) (tables : Tables) (sound : IsAuction a) (shape : HasAnswerShape a answer) (are : AreTablesAt a answer.prices.items tables) (k bidder : ℕ) (l : k < length a.bidders)
+module _ (a : AuctionText) (answer : Answer) (tables : AllTables) (sound : IsAuction a) (shape : HasAnswerShape a answer) (are : AreTablesAt a answer.prices.items tables) (k bidder : ℕ) (l : k < length a.bidders)
     (served : bidder ≡ place_at a.order k) (table : List ℤ) (read : table ≡ get_or tables.bidders.items bidder table) where
   abbrev n : ℕ
   n = length a.goods
@@ -194,7 +194,7 @@ module _ (a : AuctionText) (answer : Answer) (tables : Tables) (sound : IsAuctio
       gave-each set h = gave set (subst (λ (m : ℕ). set < m) (sym own-proper.size) h)
 
       -- with its table given back
-      pub turn-at : length given ≡ 512 → IsTurn a answer k table given
+      pub turn-at : length given ≡ 512 → AreAtTurn a answer k table given
       turn-at room =
           let same = rows-are a answer.prices.items tables sound are in
           record {

@@ -17,8 +17,8 @@ use Rattle.mix_law.specs.Demands.{IsTableOf}
 use Rattle.mix_law.specs.Members.{rho}
 use Rattle.mix_market.specs.Lyapunov.{lyapunov, sum_of}
 use Rattle.mix_market.proofs.MarketLaws.{lyapunov-is}
-use Rattle.mix_clearing.specs.Clearings.{bidder_utility}
-use Rattle.mix_check.specs.declared.tables.Tables.{Tables}
+use Rattle.mix_law.specs.Clearings.{bidder_utility}
+use Rattle.mix_check.specs.declared.tables.AllTables.{AllTables}
 use Rattle.mix_check.specs.Tests.{HaveSums, rows_of}
 use Rattle.mix_check.proofs.WordSums.{lies-wider, word-same, word-sum}
 
@@ -51,7 +51,7 @@ sum-range n (t ∷ ts) p set l =
     (omega (arith, ints, first.0, rest.0), omega (arith, ints, first.1, rest.1))
 
 -- the sums that are kept, and the seller's numbers
-pub sums-range : (n : ℕ) (tables : Tables) → HaveSums n tables → (set : ℕ) → set < 2 ^ suc n
+pub sums-range : (n : ℕ) (tables : AllTables) → HaveSums n tables → (set : ℕ) → set < 2 ^ suc n
     → (pos 0 ≤ℤ number_of tables.sum set) × (number_of tables.sum set ≤ℤ pos 2048000000) × (pos 0 ≤ℤ number_of tables.seller set) × (number_of tables.seller set ≤ℤ pos 8000000)
 sums-range n tables have set l =
     let sums = sum-range n tables.bidders.items have.proper set l in
@@ -61,7 +61,7 @@ sums-range n tables have set l =
     (omega (arith, ints, sums.0, is), omega (arith, ints, sums.1, is, few), own.0, own.1)
 
 -- all rows together, in any order of the bidders
-pub rows-sum : (n : ℕ) (tables : Tables) (order : List ℕ) → IsOrder (length tables.bidders.items) order → HaveSums n tables → (set : ℕ) → set < 2 ^ suc n
+pub rows-sum : (n : ℕ) (tables : AllTables) (order : List ℕ) → IsOrder (length tables.bidders.items) order → HaveSums n tables → (set : ℕ) → set < 2 ^ suc n
     → sum_at (rows_of order tables) set ≡ number_of tables.sum set +ℤ number_of tables.seller set
 rows-sum n tables order ordered have set l =
     let a = sum-append (in_order order tables.bidders.items) tables.seller set in
@@ -70,7 +70,7 @@ rows-sum n tables order ordered have set l =
     omega (arith, ints, a, b, c)
 
 -- the null share of the supply
-pub null-is : (n : ℕ) (tables : Tables) (order : List ℕ) → IsOrder (length tables.bidders.items) order → (supply : List ℤ) (all : ℕ) → HaveSums n tables → all ≡ whole n
+pub null-is : (n : ℕ) (tables : AllTables) (order : List ℕ) → IsOrder (length tables.bidders.items) order → (supply : List ℤ) (all : ℕ) → HaveSums n tables → all ≡ whole n
     → (number_of tables.sum all +ℤ number_of tables.seller all) -ℤ total supply ≡ supply_null n (rows_of order tables) supply
 null-is n tables order ordered supply all have e =
     let some = pow_pos (suc n) in
@@ -79,7 +79,7 @@ null-is n tables order ordered supply all have e =
     omega (arith, ints, a, b)
 
 -- all members' number of the whole set, and the null share of the supply, as they are kept
-module _ (n : ℕ) (tables : Tables) (have : HaveSums n tables) (len all : ℕ) (s t : ℤ) (long : len ≡ n) (is_all : all ≡ 2 ^ (len + 1) - 1) (is_sum : s ≡ number_of tables.sum all) (is_seller : t ≡ number_of tables.seller all) where
+module _ (n : ℕ) (tables : AllTables) (have : HaveSums n tables) (len all : ℕ) (s t : ℤ) (long : len ≡ n) (is_all : all ≡ 2 ^ (len + 1) - 1) (is_sum : s ≡ number_of tables.sum all) (is_seller : t ≡ number_of tables.seller all) where
   whole-is : all ≡ whole n
   whole-is = is_all ∙ ap (λ (k : ℕ). 2 ^ k - 1) (let e : len + 1 ≡ suc n = omega (arith, long) in e)
 

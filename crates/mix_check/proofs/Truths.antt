@@ -11,8 +11,8 @@ use Rattle.mix_num.specs.declared.pair.Tight.{Tight as TightPair}
 use Rattle.mix_num.proofs.Orders.{all-where_in_order, get-in_order}
 use Rattle.mix_law.specs.Demands.{IsDemanded}
 use Rattle.mix_market.specs.Lyapunov.{lyapunov}
-use Rattle.mix_clearing.specs.Certificates.{tables_at}
-use Rattle.mix_clearing.specs.Clearings.{Clears, bidder_utility}
+use Rattle.mix_law.specs.Certificates.{tables_at}
+use Rattle.mix_law.specs.Clearings.{Clears, bidder_utility}
 use Rattle.mix_market.specs.Lowerings.{RisesWhereFallen}
 use Rattle.mix_clearing.proofs.CheckedOutcomes.{checked_outcome}
 use Rattle.mix_clearing.proofs.FallingPrices.{least_clearing-by_lowering}

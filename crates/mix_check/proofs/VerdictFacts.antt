@@ -1,30 +1,31 @@
 -- What a verdict tells of an outcome, and what follows where the outcome is true.
-use Rattle.std.proofs.Common.{◌≡◌, ◌↔◌, ℕ, ℤ, List, length, refl, sym, ◌∙◌, subst, Result, IfOk}
+use Rattle.std.proofs.Common.{◌≡◌, ◌↔◌, ◌<◌, ℕ, ℤ, List, length, refl, arith, sym, ◌∙◌, subst, Result, IfOk}
 use Rattle.std.proofs.lemmas.Result.{IfOk-weaker}
 use Rattle.mix_num.specs.declared.Memory.{Memory}
 use Rattle.mix_num.specs.Vectors.{Vector}
-use Rattle.mix_clearing.specs.Clearings.{AreLeastClearing}
+use Rattle.mix_law.specs.Clearings.{AreLeastClearing}
+use Rattle.mix_law.specs.Scales.{KeepsScales}
+use Rattle.mix_cap.proofs.UnderCaps.{under_keeps_scales}
 use Rattle.mix_clearing.specs.Scales.{KeepScales}
 use Rattle.mix_clearing.proofs.Fractions.{least_of_fractions-where_least_clearing}
 use Rattle.mix_clearing.proofs.Worths.{worth_most-where_clears}
 use Rattle.mix_text.specs.Auctions.{AuctionText, IsAuction}
+use Rattle.mix_text.specs.Bidders.{list_at}
+use Rattle.mix_text.specs.Caps.{cap_at}
 use Rattle.mix_answer.specs.Refusals.{AreConvex}
 use Rattle.mix_answer.specs.Truths.{IsTrueOutcome, bundles_of}
 use Rattle.mix_answer.specs.Utilities.{scaled_utilities_of, utilities_of}
 use Rattle.mix_answer.specs.declared.outcome.Outcome.{Outcome}
 use Rattle.mix_answer.specs.declared.outcome.Outcome.TheVariants.{Cleared, Refused}
-use Rattle.mix_answer.proofs.Entrants.{utilities_keep_scales, utilities_once}
+use Rattle.mix_answer.proofs.Entrants.{length-scaled, scaled-there, utilities_once}
+use Rattle.mix_answer.proofs.TrueRefusals.{list_at_ok}
 use Rattle.mix_check.specs.declared.reason.Verdict.{Verdict}
 use Rattle.mix_check.specs.declared.reason.Verdict.TheVariants.{No, Yes}
-use Rattle.mix_check.specs.Verdicts.{GivesFirstReason, IsLeastOfFractions, IsVerdict, IsWorthMost}
+use Rattle.mix_check.specs.Verdicts.{IsLeastOfFractions, IsVerdict, IsWorthMost}
 
 pub verdict_exact : (a : AuctionText) (outcome : Outcome) (verdict : Verdict) → IsVerdict a outcome verdict → (verdict ≡ Yes) ↔ IsTrueOutcome a outcome
 verdict_exact a outcome Yes is = ((λ e. is), λ true. refl)
 verdict_exact a outcome (No reason) is = ((λ e. cc), λ true. absurd (is.0 true))
-
-pub verdict_reason : (a : AuctionText) (outcome : Outcome) (verdict : Verdict) → IsVerdict a outcome verdict → GivesFirstReason a outcome verdict
-verdict_reason a outcome Yes is = tt
-verdict_reason a outcome (No reason) is = is.1
 
 -- a true answer is worth no less than any allocation
 pub true_worth : (a : AuctionText) (outcome : Outcome) → IsAuction a → IsTrueOutcome a outcome → IsWorthMost a outcome
@@ -34,7 +35,10 @@ true_worth a (Cleared answer) sound true =
 
 -- the utilities of convex bidders at all scales go together
 scales-kept : (a : AuctionText) → IsAuction a → AreConvex a → KeepScales (length a.supply) (scaled_utilities_of a)
-scales-kept a sound convex = subst (λ (n : ℕ). KeepScales n (scaled_utilities_of a)) (sym sound.supply.0) (utilities_keep_scales a sound convex)
+scales-kept a sound convex = subst (λ (n : ℕ). KeepScales n (scaled_utilities_of a)) (sym sound.supply.0) (λ k l.
+    let there : k < length a.bidders = let m = length-scaled a in omega (arith, m, l) in
+    subst (λ (f : ℕ → Vector → ℤ). KeepsScales (length a.goods) f) (sym (scaled-there a k there))
+    (under_keeps_scales (length a.goods) (cap_at a.caps k) (list_at a.bidders k).bids (list_at_ok a k sound there).bids (sound.caps.positive k) (convex k there)))
 
 -- and no prices with fractions clear below a true answer's
 pub true_least : (a : AuctionText) (outcome : Outcome) → IsAuction a → IsTrueOutcome a outcome → IsLeastOfFractions a outcome

@@ -8,8 +8,8 @@ use Rattle.mix_num.specs.Orders.{in_order, place_at}
 use Rattle.mix_num.specs.Pairs.{IsPair, floor_at, pair_number}
 use Rattle.mix_law.specs.Demands.{IsDemanded, table_of}
 use Rattle.mix_market.specs.Lyapunov.{lyapunov}
-use Rattle.mix_clearing.specs.Certificates.{tables_at}
-use Rattle.mix_clearing.specs.Clearings.{bidder_bundle, bidder_utility}
+use Rattle.mix_law.specs.Certificates.{tables_at}
+use Rattle.mix_law.specs.Clearings.{bidder_bundle, bidder_utility}
 use Rattle.mix_market.specs.Lowerings.{CanFall}
 use Rattle.mix_bids.specs.Bids.{facet_weight}
 use Rattle.mix_text.specs.Auctions.{AuctionText}

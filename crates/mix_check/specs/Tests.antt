@@ -9,11 +9,11 @@ use Rattle.mix_num.specs.Orders.{in_order, place_at}
 use Rattle.mix_num.specs.Pairs.{IsPair, floor_at, left_at}
 use Rattle.mix_num.specs.Ranges.{Lies}
 use Rattle.mix_law.specs.Demands.{IsDemanded, IsTableOf}
-use Rattle.mix_cap.specs.MemberLaws.{function_of, size_of}
+use Rattle.mix_cap.specs.MemberLaws.{function_of, goods_of}
 use Rattle.mix_cap.specs.declared.member.Member.{Member}
 use Rattle.mix_market.specs.Lyapunov.{lyapunov}
-use Rattle.mix_clearing.specs.Certificates.{IsTightPair, tables_at}
-use Rattle.mix_clearing.specs.Clearings.{bidder_utility}
+use Rattle.mix_law.specs.Certificates.{IsTightPair, tables_at}
+use Rattle.mix_law.specs.Clearings.{bidder_utility}
 use Rattle.mix_market.specs.Lowerings.{RisesWhereFallen}
 use Rattle.mix_text.specs.Auctions.{AuctionText}
 use Rattle.mix_answer.specs.Refusals.{AreConvex, AreConvexBefore}
@@ -22,7 +22,7 @@ use Rattle.mix_answer.specs.Utilities.{IsConvexEntrant, entrant_at, entrant_util
 use Rattle.mix_answer.specs.declared.outcome.Answer.{Answer}
 use Rattle.mix_check.specs.declared.tables.Taken.{Taken}
 use Rattle.mix_check.specs.declared.tables.Taken.TheVariants.{Invalid, Tables as TablesOf}
-use Rattle.mix_check.specs.declared.tables.Tables.{Tables}
+use Rattle.mix_check.specs.declared.tables.AllTables.{AllTables}
 use Rattle.mix_check.specs.declared.pairs.Failure.{Failure}
 use Rattle.mix_check.specs.declared.reason.Reason.{Reason}
 use Rattle.mix_check.specs.declared.reason.Reason.TheVariants.{Pair, Tight}
@@ -31,7 +31,7 @@ use Rattle.mix_check.specs.Reasons.{HoldsOfAnswer, bundle_of, payment_of, sum_of
 -- a member that stands for the bidder at a place, which is convex: it is over the goods of the auction, and its function is the bidder's utility
 pub record StandsFor (a : AuctionText) (k : ℕ) (member : Member) : Type 0 where
   pub convex : IsConvexEntrant (entrant_at a k)
-  pub goods : size_of member ≡ length a.goods
+  pub goods : goods_of member ≡ length a.goods
   pub utility : function_of member ≡ entrant_utility (entrant_at a k)
 
 -- whether the bidder at a place is convex
@@ -81,7 +81,7 @@ IsTaken a prices (TablesOf tables) = AreConvex a × AreTablesOfFirst a prices (l
 IsTaken a prices (Invalid k) = IsFirstInvalid a (length a.bidders) k
 
 -- all tables, the bidders' in an order and the seller's last
-abbrev pub rows_of : List ℕ → Tables → List (List ℤ)
+abbrev pub rows_of : List ℕ → AllTables → List (List ℤ)
 rows_of order tables = in_order order tables.bidders.items ++ tables.seller ∷ []
 
 -- what is left of the supply at a set once the bidders before the k-th in the order have their bundles, less all that the members from it on can take
@@ -89,7 +89,7 @@ abbrev pub spare_at : ℕ → List (List ℤ) → List ℤ → List (List ℤ) �
 spare_at n rows supply bundles k set = left_at n rows supply bundles k set -ℤ sum_at (drop k rows) set
 
 -- tables of bidders and of a seller that are proper, and the sums of those of the bidders
-pub record HaveSums (n : ℕ) (tables : Tables) : Type 0 where
+pub record HaveSums (n : ℕ) (tables : AllTables) : Type 0 where
   pub few : length tables.bidders.items ≤ 256
   pub proper : (k : ℕ) → k < length tables.bidders.items → IsProper n (get_or tables.bidders.items k [])
   pub seller : IsProper n tables.seller
@@ -97,7 +97,7 @@ pub record HaveSums (n : ℕ) (tables : Tables) : Type 0 where
   pub sums : (set : ℕ) → set < 2 ^ suc n → number_of tables.sum set ≡ sum_at tables.bidders.items set
 
 -- the tables of all members at prices, and the sums of those of the bidders
-pub record AreTablesAt (a : AuctionText) (prices : List ℤ) (tables : Tables) : Type 0 where
+pub record AreTablesAt (a : AuctionText) (prices : List ℤ) (tables : AllTables) : Type 0 where
   pub bidders : AreTablesOfFirst a prices (length a.bidders) tables.bidders.items
   pub seller : IsTableOf (length a.goods) (seller_gain a.supply a.reserve) prices tables.seller
   pub sums : HaveSums (length a.goods) tables
@@ -107,7 +107,7 @@ abbrev pub LieWithin : ℕ → ℕ → List ℤ → Type 0
 LieWithin n m numbers = (set : ℕ) → set < 2 ^ suc n → Lies m (number_of numbers set)
 
 -- the table of the bidder at a turn, and what must be given to it at each set
-pub record IsTurn (a : AuctionText) (answer : Answer) (turn : ℕ) (table floor : List ℤ) : Type 0 where
+pub record AreAtTurn (a : AuctionText) (answer : Answer) (turn : ℕ) (table floor : List ℤ) : Type 0 where
   pub own : table ≡ get_or (tables_at (utilities_of a) a.supply a.reserve answer.prices.items a.order) turn []
   pub needed : (set : ℕ) → set < 2 ^ suc (length a.goods) → number_of floor set
       ≡ floor_at (length a.goods) (tables_at (utilities_of a) a.supply a.reserve answer.prices.items a.order) a.supply (in_order a.order (bundles_of answer)) turn set

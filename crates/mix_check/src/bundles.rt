@@ -8,14 +8,14 @@ ghost use Rattle.mix_check.specs.Orders.{IsFirstReason, NoneBefore};
 ghost use Rattle.mix_check.specs.Tests.{AreDemanded, ArePaid, AreTablesAt};
 
 use crate::reason::Reason;
-use crate::tables::Tables;
+use crate::tables::AllTables;
 use mix_answer::Answer;
 use mix_demand::is_demanded;
 use mix_pay::pay;
 use mix_text::Auction;
 
 /// Each bidder demands its bundle at the prices.
-pub fn demanded(auction: &Auction, answer: &Answer, tables: &Tables) -> Result<(), Reason>
+pub fn demanded(auction: &Auction, answer: &Answer, tables: &AllTables) -> Result<(), Reason>
     requires shape { HasAnswerShape (auction_text auction.now) answer.now }
     requires tables { AreTablesAt (auction_text auction.now) answer.now.prices.items tables.now }
     requires convex { AreConvex (auction_text auction.now) }

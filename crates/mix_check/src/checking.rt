@@ -15,7 +15,7 @@ use crate::falls::none_lower;
 use crate::members::first_invalid;
 use crate::pairs::tight;
 use crate::reason::{Reason, Verdict};
-use crate::tables::{Tables, Taken, all_tables, bidder_tables};
+use crate::tables::{AllTables, Taken, all_tables, bidder_tables};
 use mix_answer::{Answer, Outcome, Refusal};
 use mix_num::Memory;
 use mix_text::Auction;
@@ -71,7 +71,7 @@ fn check_answer(alloc: Global, auction: &Auction, answer: &Answer) -> Result<Ver
 }
 
 /// The tests of an answer of bidders that are convex, in their order.
-fn passes(auction: &Auction, answer: &Answer, tables: &Tables) -> Result<(), Reason>
+fn passes(auction: &Auction, answer: &Answer, tables: &AllTables) -> Result<(), Reason>
     requires shape { HasAnswerShape (auction_text auction.now) answer.now }
     requires convex { AreConvex (auction_text auction.now) }
     requires tables { AreTablesAt (auction_text auction.now) answer.now.prices.items tables.now }

@@ -11,10 +11,10 @@ ghost use Rattle.mix_answer.specs.Truths.{HaveTights, pair_of};
 ghost use Rattle.mix_answer.specs.declared.outcome.Outcome.TheVariants.{Cleared};
 ghost use Rattle.mix_check.specs.Orders.{IsFirstReason, NoneBefore};
 ghost use Rattle.mix_check.specs.Reasons.{bundle_of, number_at};
-ghost use Rattle.mix_check.specs.Tests.{AreTablesAt, HasTightPair, HaveSums, IsAgainst, IsFirstFailure, IsFirstOfTurn, IsTurn, LieWithin, rows_of, spare_at};
+ghost use Rattle.mix_check.specs.Tests.{AreAtTurn, AreTablesAt, HasTightPair, HaveSums, IsAgainst, IsFirstFailure, IsFirstOfTurn, LieWithin, rows_of, spare_at};
 
 use crate::reason::Reason;
-use crate::tables::{Tables, sets_of};
+use crate::tables::{AllTables, sets_of};
 use mix_answer::Answer;
 use mix_demand::Rho;
 use mix_num::{Bundle, Set, Tight, pair_number, sum_over};
@@ -29,7 +29,7 @@ struct Failure {
 
 /// For each bidder and each good the two sets are a pair, and its number is what the bidder has of the good. The bidders have their turns in
 /// tie order; the reason is against the first of them in order of first appearance.
-pub fn tight(auction: &Auction, answer: &Answer, tables: &Tables) -> Result<(), Reason>
+pub fn tight(auction: &Auction, answer: &Answer, tables: &AllTables) -> Result<(), Reason>
     requires shape { HasAnswerShape (auction_text auction.now) answer.now }
     requires tables { AreTablesAt (auction_text auction.now) answer.now.prices.items tables.now }
     requires before { NoneBefore (auction_text auction.now) (Cleared answer.now) (9 ∷ []) }
@@ -66,7 +66,7 @@ fn first_failure(
 ) -> Failure
     requires shape { HasAnswerShape (auction_text auction.now) answer.now }
     requires inside { turn < length auction.now.bidders }
-    requires turn { IsTurn (auction_text auction.now) answer.now turn table.now floor.now }
+    requires turn { AreAtTurn (auction_text auction.now) answer.now turn table.now floor.now }
     requires first { IsFirstFailure (auction_text auction.now) answer.now turn first }
     ensures { IsFirstFailure (auction_text auction.now) answer.now (turn + 1) result }
 {
@@ -93,7 +93,7 @@ fn tight_of_turn(
 ) -> Result<(), Reason>
     requires shape { HasAnswerShape (auction_text auction.now) answer.now }
     requires inside { turn < length auction.now.bidders }
-    requires turn { IsTurn (auction_text auction.now) answer.now turn table.now floor.now }
+    requires turn { AreAtTurn (auction_text auction.now) answer.now turn table.now floor.now }
     ensures passed { IfOk result (λ done. (j : ℕ) → j < length auction.now.goods → HasTightPair (auction_text auction.now) answer.now turn j) }
     ensures reason { IfErr result (IsFirstOfTurn (auction_text auction.now) answer.now turn) }
 {
@@ -115,7 +115,7 @@ fn tight_of_good(
     requires shape { HasAnswerShape (auction_text auction.now) answer.now }
     requires inside { turn < length auction.now.bidders }
     requires good { good < length auction.now.goods }
-    requires turn { IsTurn (auction_text auction.now) answer.now turn table.now floor.now }
+    requires turn { AreAtTurn (auction_text auction.now) answer.now turn table.now floor.now }
     ensures passed { IfOk result (λ done. HasTightPair (auction_text auction.now) answer.now turn good) }
     ensures reason { IfErr result (IsAgainst (auction_text auction.now) answer.now (place_at auction.now.order turn) good) }
 {
@@ -177,7 +177,7 @@ fn bound_at(
     requires shape { HasAnswerShape (auction_text auction.now) answer.now }
     requires inside { turn < length auction.now.bidders }
     requires good { good < length auction.now.goods }
-    requires turn { IsTurn (auction_text auction.now) answer.now turn table.now floor.now }
+    requires turn { AreAtTurn (auction_text auction.now) answer.now turn table.now floor.now }
     ensures value { result ≡ number_at (auction_text auction.now) answer.now turn good }
     ensures range { Lies 9000000000000 result }
 {
@@ -195,7 +195,7 @@ fn bound_at(
 }
 
 /// Writes, for each set, what the supply has there less all that the members can take.
-fn start(spare: &mut [i64], supply: &Bundle, tables: &Tables)
+fn start(spare: &mut [i64], supply: &Bundle, tables: &AllTables)
     requires size { length spare.old ≡ 512 }
     requires few { length supply.now.items ≤ 8 }
     requires supply { All IsAmount supply.now.items }

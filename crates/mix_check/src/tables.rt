@@ -15,7 +15,7 @@ use std::alloc::Global;
 
 /// The tables of all members, and the sums of those of the bidders, set by set.
 #[derive(Drop)]
-pub struct Tables {
+pub struct AllTables {
     /// The bidders' tables in order.
     pub bidders: Vec<Rho>,
     /// The seller's table.
@@ -57,7 +57,7 @@ pub fn all_tables(
     auction: &Auction,
     prices: &Prices,
     bidders: Vec<Rho>,
-) -> Result<Tables, Memory>
+) -> Result<AllTables, Memory>
     requires prices { AreAmounts (length auction.now.goods) prices.now.items }
     requires bidders { AreTablesOfFirst (auction_text auction.now) prices.now.items (length auction.now.bidders) bidders.items }
     ensures { IfOk result (AreTablesAt (auction_text auction.now) prices.now.items) }
@@ -68,7 +68,7 @@ pub fn all_tables(
         prices,
     )?;
     let sum = sum_of(alloc, prices.len(), &bidders)?;
-    Ok(Tables {
+    Ok(AllTables {
         bidders,
         seller,
         sum,

@@ -3,10 +3,9 @@
 use Rattle.std.proofs.Common.{◌≡◌, ◌↔◌, ℕ, ℤ, List, length, arith}
 use Rattle.std.proofs.lemmas.Int.{ints}
 use Rattle.mix_num.specs.Vectors.{Vector, with_null}
-use Rattle.mix_market.specs.Gaps.{IsAboveSomewhere}
 use Rattle.mix_market.specs.Lyapunov.{IsBelow, lyapunov}
-use Rattle.mix_clearing.specs.Ceilings.{AreGreatestClearing, CanClearUnder}
-use Rattle.mix_clearing.specs.Clearings.{AreLeastClearing, CanClear}
+use Rattle.mix_clearing.specs.Ceilings.{AreGreatestClearing}
+use Rattle.mix_law.specs.Clearings.{CanClear}
 use Rattle.mix_clearing.proofs.ClearingPrices.{clear-where_alike, least-where_clear}
 use Rattle.mix_clearing.proofs.LeastClearing.{above-where_clear}
 use Rattle.mix_clearing.proofs.PriceLists.{below-where_floor, floor-where_below}
@@ -43,11 +42,3 @@ module _ (utilities : List (Vector → ℤ)) (supply reserve low : List ℤ) (ca
         floor-where_below n others high
         (greatest others (above-where_clear utilities supply reserve others under.0) (below-where_floor n others ceiling under.1) (same-where_clear others under.0));
   }
-
--- where the least clearing prices are above the ceiling somewhere, none under it clear
-pub none_clears-where_above : (utilities : List (Vector → ℤ)) (supply reserve ceiling low : List ℤ) → AreLeastClearing utilities supply reserve low
-    → IsAboveSomewhere (length supply) (with_null low) (with_null ceiling) → (prices : List ℤ) → ¬ CanClearUnder utilities supply reserve ceiling prices
-none_clears-where_above utilities supply reserve ceiling low are above prices under =
-    let down = below-where_floor (length supply) low prices (are.least prices under.0) above.0 above.1 in
-    let up = below-where_floor (length supply) prices ceiling under.1 above.0 above.1 in
-    omega (arith, ints, down, up, above.2)

@@ -3,8 +3,8 @@ use Rattle.std.proofs.Common.{ℕ, ◌<◌, List, ℤ, pos, ◌≤ℤ◌, length
 use Rattle.mix_num.specs.Vectors.{Vector, with_null}
 use Rattle.mix_num.specs.Orders.{IsOrder}
 use Rattle.mix_market.specs.Lyapunov.{lyapunov}
-use Rattle.mix_clearing.specs.Clearings.{Clears, IsSolution}
-use Rattle.mix_clearing.specs.Certificates.{IsTightPair}
+use Rattle.mix_law.specs.Clearings.{Clears, IsSolution}
+use Rattle.mix_law.specs.Certificates.{IsTightPair}
 use Rattle.mix_market.specs.Lowerings.{RisesWhereFallen}
 use Rattle.mix_clearing.specs.Utilities.{KeepLaws}
 use Rattle.mix_clearing.proofs.FallingPrices.{least_clearing-by_lowering}

@@ -6,7 +6,7 @@ use Rattle.mix_num.specs.Vectors.{Vector}
 use Rattle.mix_num.specs.Sellers.{IsAmount, AreAmounts}
 use Rattle.mix_num.specs.Shares.{sum_at}
 use Rattle.mix_law.proofs.Amounts.{some-where_demanded}
-use Rattle.mix_clearing.specs.Clearings.{bidder_utility, bidder_bundle, Clears}
+use Rattle.mix_law.specs.Clearings.{bidder_utility, bidder_bundle, Clears}
 use Rattle.mix_clearing.specs.Utilities.{KeepLaws}
 
 -- of amounts that are not less than nothing none is more than their sum

@@ -11,7 +11,7 @@ use Rattle.mix_num.proofs.Costs.{dot-is, dot-comm, dot-grows, dot-alike, cost_of
 use Rattle.mix_law.specs.Demands.{IsDemanded}
 use Rattle.mix_market.specs.Lyapunov.{sum_of, lyapunov}
 use Rattle.mix_market.proofs.MarketLaws.{lyapunov-is}
-use Rattle.mix_clearing.specs.Clearings.{bidder_utility, bidder_bundle, Clears}
+use Rattle.mix_law.specs.Clearings.{bidder_utility, bidder_bundle, Clears}
 
 -- the Lyapunov function is the sum of the utilities and the cost of the supply
 pub lyapunov-cost : (utilities : List (Vector → ℤ)) (supply q : List ℤ) → length q ≡ length supply → lyapunov utilities supply (with_null q) ≡ sum_of utilities (with_null q) +ℤ dot_of q supply

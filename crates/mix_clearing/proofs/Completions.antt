@@ -3,7 +3,7 @@ use Rattle.std.proofs.Common.{◌↔◌, ℕ, ℤ, List, refl, subst}
 use Rattle.mix_num.specs.Vectors.{Vector}
 use Rattle.mix_num.specs.Tables.{IsLexAtMost}
 use Rattle.mix_num.specs.Orders.{place_at}
-use Rattle.mix_clearing.specs.Clearings.{bidder_bundle, Clears, KeepsTieRule}
+use Rattle.mix_law.specs.Clearings.{bidder_bundle, Clears, KeepsTieRule}
 use Rattle.mix_clearing.specs.Completions.{AreGreatestCompletable}
 
 pub greatest-exactly : (utilities : List (Vector → ℤ)) (supply reserve prices : List ℤ) (order : List ℕ) (bundles : List (List ℤ)) (returns : List ℤ) → Clears utilities supply reserve prices bundles returns

@@ -3,7 +3,7 @@ use Rattle.std.proofs.Common.{◌↔◌, ℤ, List, length, refl}
 use Rattle.mix_num.specs.Vectors.{Vector, with_null}
 use Rattle.mix_law.specs.Members.{KeepsLocal}
 use Rattle.mix_market.specs.Lyapunov.{IsLeastPoint, lyapunov}
-use Rattle.mix_clearing.specs.Clearings.{AreLeastClearing, CanClear}
+use Rattle.mix_law.specs.Clearings.{AreLeastClearing, CanClear}
 use Rattle.mix_market.specs.Lowerings.{RisesWhereFallen}
 use Rattle.mix_clearing.proofs.LeastClearing.{above-where_clear, least-of_vectors, least_clearing-where_least_point, least_point-where_least_clearing}
 use Rattle.mix_market.proofs.SingleSteps.{least_by_lowering}

@@ -12,7 +12,7 @@ use Rattle.mix_law.specs.Scales.{KeepsScales}
 use Rattle.mix_market.specs.Lyapunov.{IsLeastPoint, lyapunov, sum_of}
 use Rattle.mix_market.specs.Steepest.{IsGoods, slope_of}
 use Rattle.mix_market.proofs.MarketLaws.{lyapunov-is, slope-is}
-use Rattle.mix_clearing.specs.Clearings.{AreLeastClearing}
+use Rattle.mix_law.specs.Clearings.{AreLeastClearing}
 use Rattle.mix_market.specs.Lowerings.{RisesWhereFallen}
 use Rattle.mix_clearing.specs.Scales.{AreLeastOfFractions, KeepScales, at_scale, multiplied}
 use Rattle.mix_clearing.proofs.ClearingPrices.{least-where_clear}

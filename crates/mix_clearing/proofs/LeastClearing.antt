@@ -3,7 +3,7 @@ use Rattle.std.proofs.Common.{◌≡◌, ℕ, ℤ, pos, ◌≤ℤ◌, List, leng
 use Rattle.std.proofs.lemmas.Int.{ints}
 use Rattle.mix_num.specs.Vectors.{Vector, Agree, with_null}
 use Rattle.mix_market.specs.Lyapunov.{lyapunov, IsBelow, IsLeastPoint}
-use Rattle.mix_clearing.specs.Clearings.{AreLeastClearing, CanClear}
+use Rattle.mix_law.specs.Clearings.{AreLeastClearing, CanClear}
 use Rattle.mix_clearing.proofs.ClearingPrices.{least-where_clear, clear-where_alike}
 use Rattle.mix_clearing.proofs.PriceLists.{below-where_floor, floor-where_below, price_list, length-price_list, with_null-price_list}
 

@@ -10,7 +10,6 @@ pub mod TableLists
 pub mod TieRules
 pub mod CheckedOutcomes
 pub mod Fractions
-pub mod UtilityOrders
 pub mod ClearedAmounts
 pub mod SupplyDemanded
 pub mod Solutions

@@ -5,7 +5,7 @@ use Rattle.mix_num.specs.Vectors.{Vector, sum_to, with_null}
 use Rattle.mix_law.specs.Members.{KeepsLocal, keeps_local}
 use Rattle.mix_law.proofs.Linear.{plus_linear, sum_keeps}
 use Rattle.mix_market.specs.Lyapunov.{lyapunov, sum_of}
-use Rattle.mix_clearing.specs.Clearings.{bidder_utility}
+use Rattle.mix_law.specs.Clearings.{bidder_utility}
 use Rattle.mix_clearing.specs.Utilities.{KeepLaws}
 
 -- each utility keeps the local law, with some total
@@ -28,4 +28,4 @@ lyapunov_keeps_local utilities supply each =
 
 -- utilities that keep the laws of members do
 pub keep_local : (n : ℕ) (utilities : List (Vector → ℤ)) → KeepLaws n utilities → KeepLocal n utilities
-keep_local n utilities laws k l = ((laws k l).total, keeps_local (laws k l).convex)
+keep_local n utilities laws k l = ((laws k l).total, keeps_local (laws k l).l_natural)

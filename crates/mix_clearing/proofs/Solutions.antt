@@ -11,8 +11,8 @@ use Rattle.mix_num.specs.Pairs.{HasTight, IsFirstTight, IsFirstTightOf, floor_at
 use Rattle.mix_num.proofs.Orders.{in-places, length-order}
 use Rattle.mix_law.specs.Demands.{table_of}
 use Rattle.mix_market.specs.Lyapunov.{IsLeastPoint, lyapunov}
-use Rattle.mix_clearing.specs.Clearings.{Clears, IsSolution}
-use Rattle.mix_clearing.specs.Certificates.{IsFirstTightPair, tables_at}
+use Rattle.mix_law.specs.Clearings.{Clears, IsSolution}
+use Rattle.mix_law.specs.Certificates.{IsFirstTightPair, tables_at}
 use Rattle.mix_clearing.specs.Utilities.{KeepLaws}
 use Rattle.mix_clearing.proofs.LeastClearing.{least_clearing-where_least_point}
 use Rattle.mix_clearing.proofs.PriceLists.{floor-where_below}

@@ -17,22 +17,22 @@ use Rattle.mix_num.specs.Orders.{IsOrder}
 use Rattle.mix_num.proofs.Additions.{dot_to-front}
 use Rattle.mix_num.proofs.Costs.{dot_plus, dot_same}
 use Rattle.mix_num.proofs.Orders.{sum-append, sum-ordered}
-use Rattle.mix_law.specs.Members.{IsConvex, KeepsLaws, excess, rho}
+use Rattle.mix_law.specs.Members.{IsLNatural, KeepsLaws, excess, rho}
 use Rattle.mix_law.specs.Demands.{IsDemanded, IsTableOf, table_of}
-use Rattle.mix_law.specs.Sums.{sum_convex}
+use Rattle.mix_law.specs.Sums.{sum_l_natural}
 use Rattle.mix_law.proofs.Demanded.{fits-where_demanded}
 use Rattle.mix_law.proofs.Ranges.{decreasing}
-use Rattle.mix_seller.specs.Laws.{seller_convex}
+use Rattle.mix_seller.specs.Laws.{seller_l_natural}
 use Rattle.mix_market.specs.Lyapunov.{sum_of, lyapunov, IsBelow}
 use Rattle.mix_market.proofs.MarketLaws.{lyapunov-is}
-use Rattle.mix_clearing.specs.Certificates.{tables_at}
+use Rattle.mix_law.specs.Certificates.{tables_at}
 use Rattle.mix_clearing.specs.Utilities.{KeepLaws}
 use Rattle.mix_clearing.proofs.ClearingPrices.{lyapunov-cost}
 use Rattle.mix_clearing.proofs.TableLists.{table_of-is}
 
 -- ---- the sum of utilities that keep the laws keeps them
-none-convex : (n : ℕ) → IsConvex n (λ x. pos 0) (pos 0) (λ i. pos 0)
-none-convex n = record {
+none-l_natural : (n : ℕ) → IsLNatural n (λ x. pos 0) (pos 0) (λ i. pos 0)
+none-l_natural n = record {
   reads = λ x y a. refl;
   shift = λ x k. let e = *ℤ_comm k (pos 0) in let z = zero-*ℤ k in omega (arith, ints);
   local = λ x i j a b e. omega (arith, ints);
@@ -41,11 +41,11 @@ none-convex n = record {
 }
 
 sum-lawful : (n : ℕ) (fs : List (Vector → ℤ)) → KeepLaws n fs → KeepsLaws n (sum_of fs)
-sum-lawful n [] laws = record { total = pos 0; top = λ i. pos 0; convex = none-convex n }
+sum-lawful n [] laws = record { total = pos 0; top = λ i. pos 0; l_natural = none-l_natural n }
 sum-lawful n (f ∷ fs) laws =
     let first : KeepsLaws n f = laws 0 (omega arith) in
     let rest = sum-lawful n fs (λ k l. laws (suc k) (omega arith)) in
-    record { total = _; top = _; convex = sum_convex refl first.convex rest.convex }
+    record { total = _; top = _; l_natural = sum_l_natural refl first.l_natural rest.l_natural }
 
 -- ---- what the seller gains and the supply costs at prices of the goods: the supply at the greater of price and reserve
 sum_to-dot : (m : ℕ) (x y : Vector) → sum_to m (λ k. x k *ℤ y k) ≡ dot_to m x y
@@ -96,7 +96,7 @@ module _ (utilities : List (Vector → ℤ)) (supply reserve p : List ℤ) (laws
   all x = seller_gain supply reserve x +ℤ sum_of utilities x
 
   all-lawful : KeepsLaws n all
-  all-lawful = record { total = _; top = _; convex = sum_convex refl (seller_convex supply reserve sale) (sum-lawful n utilities laws).convex }
+  all-lawful = record { total = _; top = _; l_natural = sum_l_natural refl (seller_l_natural supply reserve sale) (sum-lawful n utilities laws).l_natural }
 
   -- with what the supply costs they are the bidders' utilities, with the supply at the greater of price and reserve
   all-cost : (q : List ℤ) → length q ≡ n → all (with_null q) +ℤ dot_of q supply ≡ sum_of utilities (with_null q) +ℤ dot_to (suc n) (with_null supply) (greater_of (with_null q) (with_null reserve))
@@ -109,7 +109,7 @@ module _ (utilities : List (Vector → ℤ)) (supply reserve p : List ℤ) (laws
   supply-demanded : IsDemanded n all p supply
   supply-demanded q e =
       let z : Vector = greater_of (with_null q) (with_null reserve) in
-      let fewer = decreasing sale.some (sum-lawful n utilities laws).convex (with_null q) z (λ k l. omega (arith, ints, clamps)) in
+      let fewer = decreasing sale.some (sum-lawful n utilities laws).l_natural (with_null q) z (λ k l. omega (arith, ints, clamps)) in
       let value = lyapunov-is utilities supply z in
       let low = least z refl (λ k l. omega (arith, ints, clamps)) in
       let here = all-cost p long in
@@ -149,7 +149,7 @@ module _ (utilities : List (Vector → ℤ)) (supply reserve p : List ℤ) (laws
     -- no set has more of the supply than the tables allow
     pub supply-within : (set : ℕ) → set < 2 ^ suc n → sum_in (supply_null n rows supply ∷ supply) set ≤ℤ sum_at rows set
     supply-within set h =
-        let fits = fits-where_demanded all-lawful.convex p summed supply long refl summed-table supply-demanded in
+        let fits = fits-where_demanded all-lawful.l_natural p summed supply long refl summed-table supply-demanded in
         let some : 0 < 2 ^ suc n = pow_pos (suc n) in
         let a = fits.within set h in
         let b = summed-is set h in

@@ -10,13 +10,13 @@ use Rattle.mix_num.specs.Tables.{Fits, IsLexAtMost}
 use Rattle.mix_num.specs.Shares.{AreShares}
 use Rattle.mix_num.specs.Orders.{IsOrder, in_order, place_at}
 use Rattle.mix_num.specs.Pairs.{HasTight, tables_in}
-use Rattle.mix_num.proofs.Orders.{all-where_in_order, get-in_order, length-order, place_below, sum-append, sum-ordered}
+use Rattle.mix_num.proofs.Orders.{all-where_in_order, get-in_order, place_below, sum-append, sum-ordered}
 use Rattle.mix_num.proofs.PairRules.{greatest_with_pairs}
 use Rattle.mix_law.specs.Demands.{IsTableOf, table_of}
 use Rattle.mix_law.proofs.Demanded.{demanded-where_fits, fits-where_demanded}
 use Rattle.mix_seller.proofs.SellerRows.{fits-where_lawful, lawful-where_fits}
-use Rattle.mix_clearing.specs.Clearings.{Clears, KeepsTieRule, bidder_bundle, bidder_utility}
-use Rattle.mix_clearing.specs.Certificates.{tables_at}
+use Rattle.mix_law.specs.Clearings.{Clears, KeepsTieRule, bidder_bundle, bidder_utility}
+use Rattle.mix_law.specs.Certificates.{tables_at}
 use Rattle.mix_clearing.specs.Utilities.{KeepLaws}
 use Rattle.mix_clearing.proofs.TableLists.{table_of-is}
 
@@ -28,9 +28,6 @@ module _ (utilities : List (Vector → ℤ)) (supply reserve prices : List ℤ) 
 
   abbrev seller : List ℤ
   seller = table_of (length supply) (seller_gain supply reserve) prices
-
-  ordered_size : length order ≡ length utilities
-  ordered_size = length-order (length utilities) order ordered
 
   is_table : (k : ℕ) → k < length utilities → IsTableOf (length supply) (bidder_utility utilities k) prices (get_or tables k [])
   is_table k l =
@@ -82,7 +79,7 @@ module _ (utilities : List (Vector → ℤ)) (supply reserve prices : List ℤ) 
           let below : place < length utilities = place_below (length utilities) order k ordered q in
           let a = own-row k q in
           let b = own-bundle bundles returns k q in
-          rw (a, b) (fits-where_demanded (laws place below).convex prices (get_or tables place []) (get_or bundles place []) c.size (c.sizes place below) (is_table place below) (c.demanded place below))
+          rw (a, b) (fits-where_demanded (laws place below).l_natural prices (get_or tables place []) (get_or bundles place []) c.size (c.sizes place below) (is_table place below) (c.demanded place below))
 
   -- and where bundles and returns share the supply among these tables, at prices at or above the reserves, they clear
   pub clears-where_shares : length prices ≡ length supply → ((i : ℕ) → i < length supply → get_or reserve i (pos 0) ≤ℤ get_or prices i (pos 0))
@@ -93,7 +90,7 @@ module _ (utilities : List (Vector → ℤ)) (supply reserve prices : List ℤ) 
     floor = floor;
     count = count;
     sizes = λ k h. (each k h).size;
-    demanded = λ k h. demanded-where_fits (laws k h).convex prices (get_or tables k []) (bidder_bundle bundles k) long (each k h).size (is_table k h) (each k h);
+    demanded = λ k h. demanded-where_fits (laws k h).l_natural prices (get_or tables k []) (bidder_bundle bundles k) long (each k h).size (is_table k h) (each k h);
     lawful = lawful-where_fits supply reserve prices seller returns last.size floor stock (table_of-is (length supply) (seller_gain supply reserve) prices) last;
     sum = λ i l. let a = sum-append (in_order order bundles) returns i in let b = sum-ordered bundles i (length utilities) order count ordered in let d = s.sum i l in omega (arith, ints);
   }

@@ -7,22 +7,13 @@ use Rattle.mix_num.proofs.Additions.{total-none, total-cons}
 use Rattle.mix_num.proofs.Products.{product_grows_left}
 use Rattle.mix_law.specs.Demands.{IsDemanded}
 use Rattle.mix_market.specs.Lyapunov.{sum_of}
-use Rattle.mix_clearing.specs.Clearings.{bidder_utility, bidder_bundle, Clears}
+use Rattle.mix_law.specs.Clearings.{bidder_utility, bidder_bundle, Clears}
 use Rattle.mix_clearing.specs.Values.{HasValue, HaveValues, IsAllocation, AreWorthMost, worth}
 use Rattle.mix_num.proofs.Costs.{dot-is, dot-grows, cost_of, cost-of_supply}
 
 -- a demanded bundle is worth the utility and its cost
 pub value-where_demanded : (n : ℕ) (f : Vector → ℤ) (p bundle : List ℤ) → length p ≡ n → IsDemanded n f p bundle → HasValue n f bundle (f (with_null p) +ℤ dot_of p bundle)
 value-where_demanded n f p bundle long demanded = record { over = demanded; reached = (p, long, refl) }
-
--- a bundle has one value at most
-pub one-value : (n : ℕ) (f : Vector → ℤ) (bundle : List ℤ) (v w : ℤ) → HasValue n f bundle v → HasValue n f bundle w → v ≡ w
-one-value n f bundle v w h k =
-    let a = h.over k.reached.0 k.reached.1 in
-    let b = k.over h.reached.0 h.reached.1 in
-    let c = h.reached.2 in
-    let d = k.reached.2 in
-    omega (arith, ints)
 
 -- bidder by bidder, what is worth no more, and what is worth no less
 sum-most : (us : List (Vector → ℤ)) (xs : List (List ℤ)) (vs p : List ℤ) → length xs ≡ length us → length vs ≡ length us

@@ -1,7 +1,7 @@
 -- The greatest clearing prices under a ceiling.
 use Rattle.std.specs.Prelude.{ℕ, ◌<◌, ℤ, pos, ◌≤ℤ◌, List, length, get_or}
 use Rattle.mix_num.specs.Vectors.{Vector}
-use Rattle.mix_clearing.specs.Clearings.{CanClear}
+use Rattle.mix_law.specs.Clearings.{CanClear}
 
 -- each of n prices is at or below the other
 abbrev pub AreAtMost : ℕ → List ℤ → List ℤ → Type 0

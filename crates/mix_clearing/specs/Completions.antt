@@ -3,7 +3,7 @@ use Rattle.std.specs.Prelude.{◌≡◌, ℕ, ◌<◌, ℤ, List, length}
 use Rattle.mix_num.specs.Vectors.{Vector}
 use Rattle.mix_num.specs.Tables.{IsLexAtMost}
 use Rattle.mix_num.specs.Orders.{place_at}
-use Rattle.mix_clearing.specs.Clearings.{Clears, bidder_bundle}
+use Rattle.mix_law.specs.Clearings.{Clears, bidder_bundle}
 
 -- a bundle of the k-th bidder in the order can be completed: with it, and with the bundles that the bidders before have, some bundles of the
 -- later ones and some returns clear

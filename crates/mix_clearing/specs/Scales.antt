@@ -3,7 +3,7 @@
 use Rattle.std.specs.Prelude.{ℕ, ◌<◌, ◌≤◌, List, map, ℤ, pos, ◌*ℤ◌, ◌≤ℤ◌, length, get_or}
 use Rattle.mix_num.specs.Vectors.{Vector}
 use Rattle.mix_law.specs.Scales.{KeepsScales}
-use Rattle.mix_clearing.specs.Clearings.{CanClear}
+use Rattle.mix_law.specs.Clearings.{CanClear}
 
 -- the utilities at a scale
 abbrev pub at_scale : ℕ → List (ℕ → Vector → ℤ) → List (Vector → ℤ)

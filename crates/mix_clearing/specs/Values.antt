@@ -3,7 +3,7 @@ use Rattle.std.specs.Prelude.{◌≡◌, ℕ, ◌<◌, ℤ, pos, ◌+ℤ◌, ◌
 use Rattle.mix_num.specs.Vectors.{Vector, with_null}
 use Rattle.mix_num.specs.Sums.{dot_of, total}
 use Rattle.mix_num.specs.Shares.{sum_at}
-use Rattle.mix_clearing.specs.Clearings.{bidder_utility, bidder_bundle}
+use Rattle.mix_law.specs.Clearings.{bidder_utility, bidder_bundle}
 
 -- the bundle of n goods is worth v: at no prices are the utility and the bundle's cost together less, and at some they are v
 pub record HasValue (n : ℕ) (f : Vector → ℤ) (bundle : List ℤ) (v : ℤ) : Type 0 where

@@ -3,8 +3,8 @@ ghost use Rattle.std.specs.Prelude.{◌≡◌, ◌↔◌, ℕ, ◌<◌, ℤ, pos
 ghost use Rattle.mix_num.specs.Vectors.{Vector, with_null};
 ghost use Rattle.mix_num.specs.Orders.{IsOrder};
 ghost use Rattle.mix_market.specs.Lyapunov.{IsBelow, lyapunov};
-ghost use Rattle.mix_clearing.specs.Certificates.{IsTightPair};
-ghost use Rattle.mix_clearing.specs.Clearings.{AreLeastClearing, CanClear, Clears, KeepsTieRule};
+ghost use Rattle.mix_law.specs.Certificates.{IsTightPair};
+ghost use Rattle.mix_law.specs.Clearings.{AreLeastClearing, CanClear, Clears, KeepsTieRule};
 ghost use Rattle.mix_clearing.specs.Completions.{AreGreatestCompletable};
 ghost use Rattle.mix_market.specs.Lowerings.{RisesWhereFallen};
 ghost use Rattle.mix_clearing.specs.Scales.{AreLeastOfFractions, KeepScales, at_scale};

@@ -42,6 +42,6 @@ fn null_of(rho: &Rho, bundle: &Bundle) -> i64
 
 /// At each prices a bundle fits the member's table exactly where it is demanded there, over all whole prices.
 pub fn demanded_where_fits<D: Convex>(member: &D)
-    ensures { (p table bundle : List ℤ) → length p ≡ D.size member.now → length bundle ≡ D.size member.now → IsTableOf (D.size member.now) (D.function member.now) p table
-        → Fits (D.size member.now) table bundle ↔ IsDemanded (D.size member.now) (D.function member.now) p bundle }
+    ensures { (p table bundle : List ℤ) → length p ≡ D.goods member.now → length bundle ≡ D.goods member.now → IsTableOf (D.goods member.now) (D.function member.now) p table
+        → Fits (D.goods member.now) table bundle ↔ IsDemanded (D.goods member.now) (D.function member.now) p bundle }
 {}

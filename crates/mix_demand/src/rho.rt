@@ -34,10 +34,8 @@ impl Rho {
         requires { goods ≤ 8 }
         ensures { IfOk result (λ table. table ≡ replicate (2 ^ suc goods) (pos 0)) }
     {
-        match vec![in alloc; 0; 2 << goods] {
-            Ok(numbers) => Ok(Rho { numbers }),
-            Err(_) => Err(Memory),
-        }
+        let numbers = vec![in alloc; 0; 2 << goods]?;
+        Ok(Rho { numbers })
     }
 
     /// The numbers, in the order of the sets' numbers.
@@ -60,10 +58,10 @@ impl Rho {
 
     /// Replaces all numbers by those of the member at the prices: the table is proper, and bundles fit it that are demanded.
     pub fn fill<D: Convex>(&mut self, member: &D, prices: &Prices)
-        requires goods { length self.old ≡ 2 ^ suc (D.size member.now) }
-        requires prices { HaveRoom (D.size member.now) prices.now.items }
-        ensures table { IsTableOf (D.size member.now) (D.function member.now) prices.now.items self.new }
-        ensures proper { IsProper (D.size member.now) self.new }
+        requires goods { length self.old ≡ 2 ^ suc (D.goods member.now) }
+        requires prices { HaveRoom (D.goods member.now) prices.now.items }
+        ensures table { IsTableOf (D.goods member.now) (D.function member.now) prices.now.items self.new }
+        ensures proper { IsProper (D.goods member.now) self.new }
     {
         write_numbers(&mut self.numbers, member, prices);
     }
@@ -80,9 +78,9 @@ impl Rho {
 
 /// The table of a member at prices; it is proper.
 pub fn rho_of<D: Convex>(alloc: Global, member: &D, prices: &Prices) -> Result<Rho, Memory>
-    requires { HaveRoom (D.size member.now) prices.now.items }
-    ensures table { IfOk result (IsTableOf (D.size member.now) (D.function member.now) prices.now.items) }
-    ensures proper { IfOk result (IsProper (D.size member.now)) }
+    requires { HaveRoom (D.goods member.now) prices.now.items }
+    ensures table { IfOk result (IsTableOf (D.goods member.now) (D.function member.now) prices.now.items) }
+    ensures proper { IfOk result (IsProper (D.goods member.now)) }
 {
     let mut table = Rho::zero(alloc, member.goods())?;
     table.fill(member, prices);
@@ -113,10 +111,10 @@ fn add_numbers(sum: &mut [i64], other: &[i64])
 /// Writes the member's number of each set, told all at once. That of the whole set, the last, is the member's total, which
 /// none passes.
 fn write_numbers<D: Convex>(numbers: &mut [i64], member: &D, prices: &Prices)
-    requires goods { length numbers.old ≡ 2 ^ suc (D.size member.now) }
-    requires prices { HaveRoom (D.size member.now) prices.now.items }
-    ensures table { IsTableOf (D.size member.now) (D.function member.now) prices.now.items numbers.new }
-    ensures proper { IsProper (D.size member.now) numbers.new }
+    requires goods { length numbers.old ≡ 2 ^ suc (D.goods member.now) }
+    requires prices { HaveRoom (D.goods member.now) prices.now.items }
+    ensures table { IsTableOf (D.goods member.now) (D.function member.now) prices.now.items numbers.new }
+    ensures proper { IsProper (D.goods member.now) numbers.new }
     ensures range { All (Lies 8000000) numbers.new }
 {
     let whole = Set::whole(member.goods()).bits();

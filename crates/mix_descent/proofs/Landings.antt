@@ -8,8 +8,8 @@ use Rattle.mix_market.specs.Markets.{goods_of, lyapunov_of}
 use Rattle.mix_market.proofs.MarketFacts.{market_keeps}
 use Rattle.mix_descent.specs.Trails.{IsLongStep, after}
 use Rattle.mix_descent.specs.declared.long_step.LongStep.{LongStep}
-use Rattle.mix_market.proofs.Bounds.{rises_low}
-use Rattle.mix_market.proofs.Rooms.{room, room-less, room-raised, some_good}
+use Rattle.mix_step.proofs.Bounds.{rises_low}
+use Rattle.mix_step.proofs.Rooms.{room, room-less, room-raised, some_good}
 use Rattle.mix_descent.proofs.TrailFacts.{stretch}
 
 pub long_smaller : {D : Type 0} {g : Ghosts D} (market : Market D g) (p q : Vector) (step : LongStep) → p 0 ≡ pos 0 → IsLongStep (goods_of market) (lyapunov_of market) p step → Agree (goods_of market) q (after p step) → room (goods_of market) q < room (goods_of market) p

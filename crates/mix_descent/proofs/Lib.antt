@@ -2,3 +2,4 @@ mod Stretches
 mod Landings
 pub mod TrailFacts
 mod LowerStarts
+mod GuessedClimbs

@@ -16,9 +16,9 @@ use Rattle.mix_market.specs.Steepest.{IsMinimalSteepest, slope_of}
 use Rattle.mix_market.proofs.MarketFacts.{market_keeps}
 use Rattle.mix_descent.specs.Trails.{IsLongStep}
 use Rattle.mix_descent.specs.declared.long_step.LongStep.{LongStep}
-use Rattle.mix_market.proofs.LongMoves.{stretch_low}
-use Rattle.mix_market.proofs.Rooms.{some_good, count}
-use Rattle.mix_market.proofs.Straights.{IsStraight, straight_ends, ray_start, ray_step, times_next}
+use Rattle.mix_step.proofs.LongMoves.{stretch_low}
+use Rattle.mix_step.proofs.Rooms.{some_good, count}
+use Rattle.mix_step.proofs.Straights.{IsStraight, straight_ends, ray_start, ray_step, times_next}
 
 -- here is so many steps along the set from p, the function has risen by the slope at each, and does so at the next
 pub record IsOnTheWay (n : ℕ) (l : Vector → ℤ) (p : Vector) (s : Choices) (slope : ℤ) (here : Vector) (length : ℤ) : Type 0 where

@@ -1,17 +1,13 @@
--- Long steps one after the other: what they keep, that one more may follow, and that there is one trail alone.
+-- Long steps one after the other: what they keep, and that one more may follow.
 use Rattle.std.proofs.Common.{◌≡◌, ℕ, ◌+◌, ◌≤◌, Bool, true, false, List, [], ◌∷◌, ◌++◌, ℤ, pos, ◌+ℤ◌, ◌-ℤ◌, ◌*ℤ◌, cond, refl, arith, sym, ap, ap₂, ◌∙◌, subst, length}
 use Rattle.std.proofs.lemmas.Int.{ints, clamps}
 use Rattle.mix_num.specs.Vectors.{Vector, bit, plus, ray, members, Agree}
 use Rattle.mix_law.specs.Members.{KeepsLocal}
 use Rattle.mix_law.proofs.Lattice.{over, over_is}
-use Rattle.mix_market.specs.Lyapunov.{IsLeastPoint}
-use Rattle.mix_market.specs.Steepest.{IsMinimalSteepest, slope_of}
-use Rattle.mix_descent.specs.Trails.{IsLongStep, AreLongSteps, IsTrail, after}
+use Rattle.mix_descent.specs.Trails.{IsLongStep, AreLongSteps, after}
 use Rattle.mix_descent.specs.declared.long_step.LongStep.{LongStep}
-use Rattle.std.proofs.lemmas.Nat.{pow_pos}
-use Rattle.mix_step.proofs.FirstSteepest.{only_one}
-use Rattle.mix_market.proofs.Climbs.{IsBestBelow, best_same, start_best, end_least}
-use Rattle.mix_market.proofs.Straights.{IsStraight, same_steepest, straight_before, straight_best, ray_step, ray_start}
+use Rattle.mix_step.proofs.Climbs.{IsBestBelow, best_same}
+use Rattle.mix_step.proofs.Straights.{IsStraight, same_steepest, straight_before, straight_best, ray_step, ray_start}
 
 -- the length of a long step as a number of steps
 pub record IsStretch (l : Vector → ℤ) (p : Vector) (step : LongStep) : Type 0 where
@@ -77,12 +73,6 @@ module _ {n : ℕ} {l : Vector → ℤ} {w : ℤ} (c : KeepsLocal n l w) where
       best_same c start (ray p s.steps (members step.set)) q (λ k i. e k i ∙ ap (λ (z : ℤ). p k +ℤ cond (members step.set k) z (pos 0)) s.is)
       (straight_best c start p (members step.set) step.slope s.steps long.minimal s.straight b s.steps (omega arith))
 
-  -- so do many
-  pub steps_best : (start p q : Vector) (steps : List LongStep) → IsBestBelow n l start p → AreLongSteps n l p steps q → IsBestBelow n l start q
-  unfolding AreLongSteps
-  steps_best start p q [] b way = best_same c start p q way b
-  steps_best start p q (step ∷ steps) b way = steps_best start (after p step) q steps (long_best start p (after p step) step b way.0 (λ k i. refl)) way.1
-
 -- the long steps so far, one counted for each
 pub record HasClimbed (n : ℕ) (l : Vector → ℤ) (start here : Vector) (before now : ℕ) : Type 0 where
   pub steps : List LongStep
@@ -102,48 +92,3 @@ climbed_more c start here next step before now more h long e counted = record {
   way = one_more c start here next h.steps step h.way long e;
   counted = let a = length-more h.steps step in let b = h.counted in omega arith;
 }
-
--- a trail ends at the least point at or above its start
-pub trail_least : {n : ℕ} {l : Vector → ℤ} {w : ℤ} → KeepsLocal n l w → (start end : Vector) (steps : List LongStep) → end 0 ≡ pos 0 → l (plus end (members 0)) -ℤ l end ≡ pos 0 → IsTrail n l start steps end → IsLeastPoint n l start end
-trail_least c start end steps null none t = end_least c start end (steps_best c start start end steps (start_best c start start (λ k i. refl)) t.chained) null (λ s g. let h = t.ends.steepest s g in omega (arith, ints))
-
-abbrev make : ℕ → ℤ → ℤ → LongStep
-make set length slope = record { set = set; length = length; slope = slope }
-
--- there is one trail alone: the minimal steepest set, its slope and the greatest length are one at each point
-long_one : (n : ℕ) (l : Vector → ℤ) {w : ℤ} → KeepsLocal n l w → (p : Vector) (a b : LongStep) → IsLongStep n l p a → IsLongStep n l p b → a ≡ b
-long_one n l c p a b x y =
-    let set = only_one n l p a.set b.set x.goods.0 y.goods.0 x.minimal y.minimal in
-    let slope = x.slope ∙ ap (λ (z : ℕ). slope_of l p (members z)) set ∙ sym y.slope in
-    let s = stretch c p a x in
-    let t = stretch c p b y in
-    let up = y.greatest s.steps (let e = s.straight s.steps (omega arith) in subst (λ (z : ℕ). l (ray p s.steps (members z)) ≡ l p +ℤ (pos s.steps *ℤ b.slope)) set (subst (λ (z : ℤ). l (ray p s.steps (members a.set)) ≡ l p +ℤ (pos s.steps *ℤ z)) slope e)) in
-    let down = x.greatest t.steps (let e = t.straight t.steps (omega arith) in subst (λ (z : ℕ). l (ray p t.steps (members z)) ≡ l p +ℤ (pos t.steps *ℤ a.slope)) (sym set) (subst (λ (z : ℤ). l (ray p t.steps (members b.set)) ≡ l p +ℤ (pos t.steps *ℤ z)) (sym slope) e)) in
-    let is = s.is in
-    let such = t.is in
-    let length : a.length ≡ b.length = omega (arith, ints) in
-    same set length slope
-  where
-    same : a.set ≡ b.set → a.length ≡ b.length → a.slope ≡ b.slope → a ≡ b
-    same e f g = ap₂ (λ (x : ℕ) (y : ℤ). make x y a.slope) e f ∙ ap (λ (z : ℤ). make b.set b.length z) g
-
-none_there : {n : ℕ} {l : Vector → ℤ} {w : ℤ} → KeepsLocal n l w → (p q : Vector) (step : LongStep) → Agree n q p → IsMinimalSteepest n l q (members 0) → IsLongStep n l p step → ⊥
-none_there {n} {l} c p q step e m long = long.some (only_one n l p step.set 0 long.goods.0 (pow_pos (n + 1)) long.minimal (same_steepest c q p (members 0) e m))
-
-chains : {n : ℕ} {l : Vector → ℤ} {w : ℤ} → KeepsLocal n l w → (p q r : Vector) (steps others : List LongStep) → AreLongSteps n l p steps q → IsMinimalSteepest n l q (members 0) → AreLongSteps n l p others r → IsMinimalSteepest n l r (members 0) → steps ≡ others
-unfolding AreLongSteps
-chains c p q r [] [] a m b k = refl
-chains c p q r [] (step ∷ others) a m b k = absurd (none_there c p q step a m b.0)
-chains c p q r (step ∷ steps) [] a m b k = absurd (none_there c p r step b k a.0)
-chains {n} {l} c p q r (step ∷ steps) (other ∷ others) a m b k =
-    let first = long_one n l c p step other a.0 b.0 in
-    let rest = chains c (after p step) q r steps others a.1 m (subst (λ (z : LongStep). AreLongSteps n l (after p z) others r) (sym first) b.1) k in
-    ap₂ (λ (x : LongStep) (xs : List LongStep). x ∷ xs) first rest
-
--- so there is one trail
-pub one_trail : {n : ℕ} {l : Vector → ℤ} {w : ℤ} → KeepsLocal n l w → (p q r : Vector) (steps others : List LongStep) → IsTrail n l p steps q → IsTrail n l p others r → steps ≡ others
-one_trail c p q r steps others t u = chains c p q r steps others t.chained t.ends u.chained u.ends
-
--- what is at most one more than one trail from a start has long steps is so for every trail from it
-pub at_most_one_more : {n : ℕ} {l : Vector → ℤ} {w : ℤ} → KeepsLocal n l w → (start end other : Vector) (steps others : List LongStep) (before now : ℕ) → IsTrail n l start steps end → now ≤ before + length steps + 1 → IsTrail n l start others other → now ≤ before + length others + 1
-at_most_one_more c start end other steps others before now t h u = let e = ap length (one_trail c start end other steps others t u) in omega arith

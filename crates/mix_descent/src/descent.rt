@@ -9,11 +9,10 @@ ghost use Rattle.mix_market.specs.Markets.{goods_of, lyapunov_of, members_of};
 ghost use Rattle.mix_descent.specs.Trails.{IsTrail};
 ghost use Rattle.mix_descent.specs.declared.long_step.LongStep.{LongStep as Long};
 
-use crate::copies::copy;
 use crate::long_step::long_step;
 use mix_law::Convex;
 use mix_market::Market;
-use mix_num::{Prices, SetTable};
+use mix_num::{MOST_VALUE, Prices, SetTable, copy};
 use mix_step::{Steps, least_among};
 use std::sync::ledger::Ledger;
 
@@ -27,10 +26,10 @@ pub fn descend<D: Convex, L: Ledger>(
     start: &Prices,
     steps: &mut Steps<L>,
 ) -> Prices
-    requires { AreWithin 1000000 (goods_of market.now) start.now.items }
+    requires { AreWithin MOST_VALUE (goods_of market.now) start.now.items }
     ensures least { IsLeastPoint (goods_of market.now) (lyapunov_of market.now) (with_null start.now.items) (with_null result.items) }
-    ensures range { AreWithin 1000000 (goods_of market.now) result.items }
-    ensures tops { (good : ℕ) → 1 ≤ good → good ≤ goods_of market.now → with_null result.items good ≤ℤ int_max (with_null start.now.items good) (greatest_of (λ member. D.ceiling member good) (members_of market.now)) }
+    ensures range { AreWithin MOST_VALUE (goods_of market.now) result.items }
+    ensures tops { (good : ℕ) → 1 ≤ good → good ≤ goods_of market.now → with_null result.items good ≤ℤ int_max (with_null start.now.items good) (greatest_of (λ member. D.top member good) (members_of market.now)) }
     ensures cost { (trail : List Long) × IsTrail (goods_of market.now) (lyapunov_of market.now) (with_null start.now.items) trail (with_null result.items) × (steps.new ≤ steps.old + length trail + 1) }
 {
     let mut prices = copy(start);

@@ -2,7 +2,6 @@
 //! point at or above the reserves from below a guess.
 #![tactic(auto)]
 
-mod copies;
 mod descent;
 mod falls;
 mod long_step;

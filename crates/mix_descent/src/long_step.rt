@@ -10,7 +10,7 @@ ghost use Rattle.mix_descent.specs.Trails.{IsLongStep, after};
 
 use mix_law::Convex;
 use mix_market::Market;
-use mix_num::{Prices, Set, SetTable, raise};
+use mix_num::{MOST_VALUE, Prices, Set, SetTable, raise};
 use mix_step::Step;
 
 /// A set of goods, by how much their prices rise together, and the slope of the Lyapunov function on the way.
@@ -34,14 +34,14 @@ pub(crate) fn long_step<D: Convex>(
     slopes: &mut SetTable,
     step: Step,
 ) -> LongStep
-    requires range { AreWithin 1000000 (goods_of market.now) prices.old.items }
+    requires range { AreWithin MOST_VALUE (goods_of market.now) prices.old.items }
     requires goods { IsSetOfGoods (goods_of market.now) step.set }
     requires some { step.set ≢ 0 }
     requires minimal { IsMinimalSteepest (goods_of market.now) (lyapunov_of market.now) (with_null prices.old.items) (members step.set) }
     requires slope { step.slope ≡ slope_of (lyapunov_of market.now) (with_null prices.old.items) (members step.set) }
     ensures long { IsLongStep (goods_of market.now) (lyapunov_of market.now) (with_null prices.old.items) result }
     ensures prices { Agree (goods_of market.now) (with_null prices.new.items) (after (with_null prices.old.items) result) }
-    ensures range { AreWithin 1000000 (goods_of market.now) prices.new.items }
+    ensures range { AreWithin MOST_VALUE (goods_of market.now) prices.new.items }
     ensures slopes { AreSlopes (goods_of market.now) (lyapunov_of market.now) (with_null prices.new.items) slopes.new }
 {
     let mut length = 0;

@@ -36,9 +36,7 @@ impl LongSteps {
         ensures ok { OnOk result (self.new ≡ self.old ++ step ∷ []) }
         ensures err { OnErr result (self.new ≡ self.old) }
     {
-        let Ok(()) = self.steps.push(step) else {
-            return Err(Memory);
-        };
+        self.steps.push(step)?;
         Ok(())
     }
 

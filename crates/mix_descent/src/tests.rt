@@ -37,17 +37,17 @@ impl<D: Convex> Convex for Taker<D> {
     ghost use Rattle.std.specs.Int.{int_min};
     ghost use Rattle.std.specs.Prelude.{pos};
 
-    ghost size = { λ taker. D.size taker.taken };
+    ghost goods = { λ taker. D.goods taker.taken };
 
-    ghost weight = { λ taker. D.weight taker.taken };
+    ghost total = { λ taker. D.total taker.taken };
 
-    ghost ceiling = { λ taker. D.ceiling taker.taken };
+    ghost top = { λ taker. D.top taker.taken };
 
     ghost function = { λ taker. D.function taker.taken };
 
-    ghost span = { λ taker x set. int_min (D.span taker.taken x set) (pos 2) };
+    ghost reach = { λ taker x set. int_min (D.reach taker.taken x set) (pos 2) };
 
-    ghost convex = { λ taker. D.convex taker.taken };
+    ghost l_natural = { λ taker. D.l_natural taker.taken };
 
     fn goods(&self) -> usize {
         self.taken.goods()

@@ -6,12 +6,11 @@ ghost use Rattle.mix_market.specs.Lyapunov.{IsLeastPoint};
 ghost use Rattle.mix_market.specs.Markets.{goods_of, lyapunov_of, reserves_of};
 ghost use Rattle.mix_descent.specs.Trails.{IsTrail};
 
-use crate::copies::copy;
 use crate::long_step::long_step;
 use crate::long_steps::LongSteps;
 use mix_law::Convex;
 use mix_market::Market;
-use mix_num::{Memory, Prices, SetTable};
+use mix_num::{MOST_VALUE, Memory, Prices, SetTable, copy};
 use mix_step::{Steps, least_among};
 use std::alloc::Global;
 use std::marker::Brand;
@@ -29,7 +28,7 @@ pub struct Climb {
 pub fn trail<D: Convex>(alloc: Global, market: &Market<D>) -> Result<Climb, Memory>
     ensures trail { IfOk result (λ climb. IsTrail (goods_of market.now) (lyapunov_of market.now) (with_null (reserves_of market.now)) climb.steps (with_null climb.prices.items)) }
     ensures least { IfOk result (λ climb. IsLeastPoint (goods_of market.now) (lyapunov_of market.now) (with_null (reserves_of market.now)) (with_null climb.prices.items)) }
-    ensures range { IfOk result (λ climb. AreWithin 1000000 (goods_of market.now) climb.prices.items) }
+    ensures range { IfOk result (λ climb. AreWithin MOST_VALUE (goods_of market.now) climb.prices.items) }
 {
     from_reserves::<D, Brand>(alloc, market, Blank::new(1))
 }
@@ -45,7 +44,7 @@ fn from_reserves<D: Convex, L: Ledger>(
     requires some { 0 < blank.parts }
     ensures trail { IfOk result (λ climb. IsTrail (goods_of market.now) (lyapunov_of market.now) (with_null (reserves_of market.now)) climb.steps (with_null climb.prices.items)) }
     ensures least { IfOk result (λ climb. IsLeastPoint (goods_of market.now) (lyapunov_of market.now) (with_null (reserves_of market.now)) (with_null climb.prices.items)) }
-    ensures range { IfOk result (λ climb. AreWithin 1000000 (goods_of market.now) climb.prices.items) }
+    ensures range { IfOk result (λ climb. AreWithin MOST_VALUE (goods_of market.now) climb.prices.items) }
 {
     let mut counter = Steps::<L>::new(blank);
     let mut steps = LongSteps::new(alloc);

@@ -3,7 +3,7 @@ use Rattle.std.proofs.Common.{◌≡◌, ℕ, ◌+◌, ◌≤◌, ◌<◌, inl, 
 use Rattle.std.proofs.lemmas.Bool.Decides.{nat_tests}
 use Rattle.std.proofs.lemmas.List.Elements.{Contains-append_left, Contains-append_right, Contains-append_cases}
 use Rattle.mix_bids.specs.Bids.{Book}
-use Rattle.mix_facets.specs.Planes.{Plane, bids_of}
+use Rattle.mix_facets.specs.Levels.{Level, bids_of}
 use Rattle.mix_facets.specs.Points.{IsCoordinate, IsNullCoordinate}
 use Rattle.mix_facets.specs.Candidates.{counting_from, lowest}
 use Rattle.mix_facets.specs.Grids.{IsRising, AreCandidates}
@@ -25,7 +25,7 @@ last_in false w u e = let q : w ≡ u = cc in contains_first [] w u q
 not_null : (c : ℕ) (w u : ℤ) → c ≡ 0 → cond (eqb c 0) None (Some w) ≡ Some u → ⊥
 not_null c w u z e = let t : eqb c 0 ≡ true = grind (arith, nat_tests) in let q = sym (ap (λ b. cond b None (Some w)) t) ∙ e in cc
 
-pub candidates_are : (book : Book) (level : Plane) (c : ℕ) (o : Option ℤ) (old new : List ℤ) → AreImages (counting_from level.first c) (bids_of book level) old → o ≡ cond (eqb c 0) None (Some (lowest level.first c (bids_of book level))) → IsAdded o old new → IsRising new → length old ≤ 400 → length new ≤ length old + 1 → All IsCoordinate old → ((u : ℤ) → o ≡ Some u → IsCoordinate u) → (c ≡ 0 → All IsNullCoordinate old) → AreCandidates book level c new
+pub candidates_are : (book : Book) (level : Level) (c : ℕ) (o : Option ℤ) (old new : List ℤ) → AreImages (counting_from level.first c) (bids_of book level) old → o ≡ cond (eqb c 0) None (Some (lowest level.first c (bids_of book level))) → IsAdded o old new → IsRising new → length old ≤ 400 → length new ≤ length old + 1 → All IsCoordinate old → ((u : ℤ) → o ≡ Some u → IsCoordinate u) → (c ≡ 0 → All IsNullCoordinate old) → AreCandidates book level c new
 candidates_are book level c o old new images e added rising few more near from null = record {
   members = λ u. (
     λ h. ⊎_elim

@@ -1,29 +1,23 @@
 -- What follows where no point of any grid has a negative weight: no facet weight of the two choices is negative anywhere.
-use Rattle.std.proofs.Common.{◌≡◌, ℕ, suc, ◌<◌, List, ℤ, pos, ◌-ℤ◌, ◌≤ℤ◌, ◌<ℤ◌, arith, refl, sym, ap, length, get_or, Any, cond, eqb, Bool, true, false}
+use Rattle.std.proofs.Common.{◌≡◌, ℕ, suc, ◌<◌, List, ℤ, pos, ◌-ℤ◌, ◌≤ℤ◌, ◌<ℤ◌, arith, refl, ap, cond, eqb, Bool, true, false}
 use Rattle.std.proofs.lemmas.Int.{ints, by_lt_z}
 use mathlib.Core.Path.{fun_ext}
 use Rattle.mix_num.specs.Vectors.{Vector}
 use Rattle.mix_bids.specs.Offers.{best, pair, same_set}
 use Rattle.mix_bids.specs.Bids.{Book, facet_weight, weight_where}
 use Rattle.mix_bids.specs.declared.bid.Bid.{Bid}
-use Rattle.mix_facets.specs.Planes.{Plane}
+use Rattle.mix_facets.specs.Levels.{Level}
 use Rattle.mix_facets.specs.Points.{prices_at}
 use Rattle.mix_facets.specs.Grids.{size_of, point_at}
 
 -- no facet weight of a level's two choices is negative where their prices differ by its difference
-abbrev pub IsClear : Book → Plane → Type 0
+abbrev pub IsClear : Book → Level → Type 0
 IsClear book level = (x : Vector) → x level.first -ℤ x level.second ≡ level.difference → pos 0 ≤ℤ facet_weight book.goods level.first level.second book.bids x
 
 -- a grid whose every negative weight is at least some point's, and whose points all have weights that are not negative
-pub level_clear : (book : Book) (level : Plane) (grid : List (List ℤ)) → ((x : Vector) → x level.first -ℤ x level.second ≡ level.difference → facet_weight book.goods level.first level.second book.bids x <ℤ pos 0 → (k : ℕ) × (k < size_of grid) × (facet_weight book.goods level.first level.second book.bids (prices_at level (point_at grid k)) ≤ℤ facet_weight book.goods level.first level.second book.bids x)) → ((k : ℕ) → k < size_of grid → pos 0 ≤ℤ facet_weight book.goods level.first level.second book.bids (prices_at level (point_at grid k))) → IsClear book level
+pub level_clear : (book : Book) (level : Level) (grid : List (List ℤ)) → ((x : Vector) → x level.first -ℤ x level.second ≡ level.difference → facet_weight book.goods level.first level.second book.bids x <ℤ pos 0 → (k : ℕ) × (k < size_of grid) × (facet_weight book.goods level.first level.second book.bids (prices_at level (point_at grid k)) ≤ℤ facet_weight book.goods level.first level.second book.bids x)) → ((k : ℕ) → k < size_of grid → pos 0 ≤ℤ facet_weight book.goods level.first level.second book.bids (prices_at level (point_at grid k))) → IsClear book level
 level_clear book level grid least all x e = by_lt_z (facet_weight book.goods level.first level.second book.bids x) (pos 0)
     (λ h. let r = least x e h in let l = r.2 in let m = all r.0 r.1 in omega (arith, ints))
-    (λ h. h)
-
--- where all levels are clear, no facet weight of the two choices is negative
-pub pair_clear : (book : Book) (i j : ℕ) (levels : List Plane) → ((x : Vector) → facet_weight book.goods i j book.bids x <ℤ pos 0 → Any (λ level. level.difference ≡ x i -ℤ x j) levels) → ((k : ℕ) (level : Plane) → k < length levels → level ≡ get_or levels k level → (x : Vector) → x i -ℤ x j ≡ level.difference → pos 0 ≤ℤ facet_weight book.goods i j book.bids x) → (x : Vector) → pos 0 ≤ℤ facet_weight book.goods i j book.bids x
-pair_clear book i j levels negative all x = by_lt_z (facet_weight book.goods i j book.bids x) (pos 0)
-    (λ h. let r = negative x h in all r.0 r.1 r.2 (sym r.3) x (sym r.4))
     (λ h. h)
 
 either_way : (s t : Bool) → cond s true t ≡ cond t true s

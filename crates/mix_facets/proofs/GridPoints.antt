@@ -9,7 +9,7 @@ use Rattle.mix_bids.specs.Bids.{Book}
 use Rattle.mix_bids.specs.declared.bid.Bid.{Bid}
 use Rattle.mix_bids.specs.Leads.{lead, lead_of, negative_lead}
 use Rattle.mix_bids.specs.Levels.{is_lead, has_lead, level_bids, differences}
-use Rattle.mix_facets.specs.Planes.{Plane, bids_of, IsLevelOf}
+use Rattle.mix_facets.specs.Levels.{Level, bids_of, IsLevelOf}
 use Rattle.mix_bids.specs.Levels.{other}
 use Rattle.mix_facets.specs.Candidates.{candidates}
 use Rattle.mix_facets.specs.Grids.{size_of, IsGridOf}
@@ -66,7 +66,7 @@ negative_of i j d bs c =
     parts false o e = absurd (cc)
 
 -- each choice other than the first has a candidate
-candidate_of : (book : Book) (level : Plane) (c : ℕ) → IsLevelOf book level → c ≢ level.first → (u : ℤ) × Contains (candidates level.first c (bids_of book level)) u
+candidate_of : (book : Book) (level : Level) (c : ℕ) → IsLevelOf book level → c ≢ level.first → (u : ℤ) × Contains (candidates level.first c (bids_of book level)) u
 candidate_of book level zero v h =
     let s = negative_of level.first level.second level.difference book.bids v.negative in
     let w = pos 0 -ℤ s.value in
@@ -82,7 +82,7 @@ size_some (us ∷ grid) h = product (length us) (size_of grid) (h 0 (omega arith
     product zero b p q = absurd (omega arith)
     product (suc a) b p q = omega arith
 
-pub grid_some : (book : Book) (level : Plane) (grid : List (List ℤ)) → IsLevelOf book level → IsGridOf book level grid → 0 < size_of grid
+pub grid_some : (book : Book) (level : Level) (grid : List (List ℤ)) → IsLevelOf book level → IsGridOf book level grid → 0 < size_of grid
 grid_some book level grid v g = size_some grid (λ k l.
     let c = candidate_of book level (other level.first level.second k) v (other_first level.first level.second k v.order) in
     let m = ((g.each k l).members c.0).1 c.1 in

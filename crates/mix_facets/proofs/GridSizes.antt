@@ -16,7 +16,7 @@ use Rattle.mix_bids.proofs.Cases.{not_true}
 use Rattle.mix_bids.proofs.Uniques.{distinct_push}
 use Rattle.mix_bids.proofs.CellPushes.{product_front, product_same}
 use Rattle.mix_bids.proofs.SameNumbers.{among_from, distinct_map, distinct_same_numbers, same_among, sum_same_numbers, sum_without, uniques_distinct}
-use Rattle.mix_facets.specs.Planes.{Plane, bids_of, level_at, AreLevelsOf, IsLevelOf}
+use Rattle.mix_facets.specs.Levels.{Level, bids_of, level_at, AreLevelsOf, IsLevelOf}
 use Rattle.mix_facets.specs.Candidates.{candidates, counting_from, lowest}
 use Rattle.mix_facets.specs.Grids.{size_of, AreCandidates, IsGridOf}
 use Rattle.mix_facets.specs.Totals.{total_size, AreGridsOf}
@@ -74,7 +74,7 @@ distinct_candidates i c bs = at (eqb c 0)
         omega (arith, e, z, as_leads)
 
 -- the candidates of a choice are as many as its factor says
-pub candidates_factor : (book : Book) (level : Plane) (c : ℕ) (us : List ℤ) → AreCandidates book level c us → length us ≡ factor level.first level.second level.difference book.bids c
+pub candidates_factor : (book : Book) (level : Level) (c : ℕ) (us : List ℤ) → AreCandidates book level c us → length us ≡ factor level.first level.second level.difference book.bids c
 unfolding factor
 candidates_factor book level c us are =
     let apart : AllPairs (λ u v. u ≢ v) us = λ k l d p q e. let r = are.rising k l d p q in omega (arith, ints) in
@@ -89,7 +89,7 @@ unfolding product_below
 size_product [] = refl
 size_product (us ∷ grid) = ap (λ z. length us * z) (size_product grid) ∙ sym (product_front (length grid) (λ k. length (get_or (us ∷ grid) k [])))
 
-pub grid_cells : (book : Book) (level : Plane) (grid : List (List ℤ)) → IsLevelOf book level → IsGridOf book level grid → size_of grid ≡ level_cells book.goods level.first level.second book.bids level.difference
+pub grid_cells : (book : Book) (level : Level) (grid : List (List ℤ)) → IsLevelOf book level → IsGridOf book level grid → size_of grid ≡ level_cells book.goods level.first level.second book.bids level.difference
 unfolding level_cells
 grid_cells book level grid is of =
     let size : length grid ≡ book.goods - 1 = let a = of.size in let b = is.goods in omega (arith, a, b) in
@@ -108,7 +108,7 @@ sum_pointwise f g x y (a ∷ xs) (b ∷ ys) e h =
     ∙ ap₂ (λ s t. s + t) (h zero (omega arith)) (sum_pointwise f g x y xs ys (omega (arith, e)) (λ k l. h (suc k) (omega arith)))
     ∙ sym (sum_by-cons g b ys)
 
-pub pair_sizes : (book : Book) (i j : ℕ) (levels : List Plane) (grids : List (List (List ℤ))) → AreLevelsOf book i j levels → length grids ≡ length levels → ((k : ℕ) (level : Plane) → k < length levels → level ≡ get_or levels k level → IsGridOf book level (get_or grids k [])) → sum_by size_of grids ≡ pair_cells book.goods book.bids i j
+pub pair_sizes : (book : Book) (i j : ℕ) (levels : List Level) (grids : List (List (List ℤ))) → AreLevelsOf book i j levels → length grids ≡ length levels → ((k : ℕ) (level : Level) → k < length levels → level ≡ get_or levels k level → IsGridOf book level (get_or grids k [])) → sum_by size_of grids ≡ pair_cells book.goods book.bids i j
 unfolding pair_cells
 pair_sizes book i j levels grids are size each =
     sum_pointwise size_of f [] (pos 0) grids ds (size ∙ sym count) (λ k l. let q = below k l in
@@ -125,10 +125,10 @@ pair_sizes book i j levels grids are size each =
     ds : List ℤ
     ds = map (λ level. level.difference) levels
 
-    none : Plane
+    none : Level
     none = level_at book i j (pos 0)
 
-    at : ℕ → Plane
+    at : ℕ → Level
     at k = get_or levels k none
 
     count : length ds ≡ length levels
@@ -173,7 +173,7 @@ one_part (suc m) f k l = ⊎_elim
     (λ q. let r = one_part m f k q in omega (arith, r))
     (eq-or-lt_of_le (let z : k ≤ m = omega arith in z))
 
-pub sizes_are_cells : (book : Book) (levels : ℕ → ℕ → List Plane) (grids : ℕ → ℕ → List (List (List ℤ))) → AreGridsOf book levels grids → total_size book.goods grids ≡ cells book
+pub sizes_are_cells : (book : Book) (levels : ℕ → ℕ → List Level) (grids : ℕ → ℕ → List (List (List ℤ))) → AreGridsOf book levels grids → total_size book.goods grids ≡ cells book
 unfolding cells total_size
 sizes_are_cells book levels grids are = pair_parts (suc book.goods) _ _ (λ j l. pair_parts j _ _ (λ i h.
     pair_sizes book i j (levels i j) (grids i j) (are.all i j h (omega arith)) (are.size i j h (omega arith)) (are.each i j h (omega arith))))
@@ -186,7 +186,7 @@ level_within n i j bs d h =
     omega (arith, s, t)
 
 -- the grid of a level has at most as many points as the list has cells
-pub grid_within : (book : Book) (level : Plane) (grid : List (List ℤ)) → IsLevelOf book level → IsGridOf book level grid → size_of grid ≤ cells book
+pub grid_within : (book : Book) (level : Level) (grid : List (List ℤ)) → IsLevelOf book level → IsGridOf book level grid → size_of grid ≤ cells book
 unfolding cells
 grid_within book level grid is of =
     let n = book.goods in

@@ -11,7 +11,7 @@ use Rattle.mix_bids.proofs.Pairs.{pair_first, pair_second}
 use Rattle.mix_bids.proofs.Sets.{all_to-true, all_to-intro}
 use Rattle.mix_facets.specs.Counted.{is_below, stays_below, is_counted, weight_counted}
 use Rattle.mix_bids.specs.Leads.{lead_of}
-use Rattle.mix_facets.specs.Planes.{Plane, bids_of, IsLevelOf}
+use Rattle.mix_facets.specs.Levels.{Level, bids_of, IsLevelOf}
 use Rattle.mix_bids.specs.Levels.{other}
 use Rattle.mix_facets.specs.Points.{place, coordinate, prices_at}
 use Rattle.mix_facets.specs.Grids.{size_of, point_at, IsRising, IsGridOf}
@@ -88,7 +88,7 @@ weight_is n i j grid [] k h q s r l = refl
 weight_is n i j grid (b ∷ bs) k h q s r l = ap₂ (λ t w. cond t b.weight (pos 0) +ℤ w) (counted_is n i j grid k b h q s r l) (weight_is n i j grid bs k h q s r l)
 
 -- the weight that a cell holds is the facet weight at its point
-pub held_facet : (book : Book) (level : Plane) (grid : List (List ℤ)) (k : ℕ) (x : Vector) → AreOver book.goods book.bids → IsLevelOf book level → IsGridOf book level grid → k < size_of grid → Agree book.goods x (prices_at level (point_at grid k))
+pub held_facet : (book : Book) (level : Level) (grid : List (List ℤ)) (k : ℕ) (x : Vector) → AreOver book.goods book.bids → IsLevelOf book level → IsGridOf book level grid → k < size_of grid → Agree book.goods x (prices_at level (point_at grid k))
     → weight_held level.first level.second (length grid) grid (bids_of book level) k ≡ facet_weight book.goods level.first level.second book.bids x
 held_facet book level grid k x o v g h a =
     weight_is book.goods level.first level.second grid (bids_of book level) k v.order v.within (g.size ∙ v.goods) (λ d p. (g.each d p).rising) h

@@ -14,7 +14,7 @@ use Rattle.mix_bids.proofs.Sets.{all_to-true}
 use Rattle.mix_bids.proofs.Lengths.{AreOver}
 use Rattle.mix_bids.specs.Leads.{lead, lead_of, negative_lead}
 use Rattle.mix_bids.specs.Levels.{has_lead, level_bids, differences}
-use Rattle.mix_facets.specs.Planes.{Plane, IsLevelOf}
+use Rattle.mix_facets.specs.Levels.{Level, IsLevelOf}
 use Rattle.mix_bids.specs.Levels.{other}
 use Rattle.mix_facets.specs.Points.{place, coordinate, prices_at, IsCoordinate, IsNullCoordinate, IsPoint}
 use Rattle.mix_facets.specs.Counted.{is_below, is_counted, weight_counted}
@@ -54,7 +54,7 @@ weight_same n i j (b ∷ bs) u v h = ap₂ (λ p w. cond p b.weight (pos 0) +ℤ
 -- ---- the weight at a point
 
 -- the facet weight at the prices of a point is the weight of the level's bids that are counted there
-pub point_weight : (n : ℕ) (level : Plane) (bs : List Bid) (point : List ℤ) (x : Vector) → AreOver n bs → level.first < level.second → level.second ≤ n → Agree n x (prices_at level point) → facet_weight n level.first level.second bs x ≡ weight_counted n level.first level.second (level_bids level.first level.second level.difference bs) (coordinate level.first level.second point)
+pub point_weight : (n : ℕ) (level : Level) (bs : List Bid) (point : List ℤ) (x : Vector) → AreOver n bs → level.first < level.second → level.second ≤ n → Agree n x (prices_at level point) → facet_weight n level.first level.second bs x ≡ weight_counted n level.first level.second (level_bids level.first level.second level.difference bs) (coordinate level.first level.second point)
 point_weight n level bs point x o h l a =
     let i = level.first in
     let j = level.second in
@@ -91,12 +91,12 @@ moved_candidate : (n i j : ℕ) (d : ℤ) (bs : List Bid) (u : Vector) (c : ℕ)
 moved_candidate n i j d bs u zero h p s = moved_null n i j d bs u (omega arith) h s
 moved_candidate n i j d bs u (suc c) h p s = moved_good i (suc c) (level_bids i j d bs) (u (suc c)) (omega arith)
 
-pub record SomeLess (book : Book) (level : Plane) (grid : List (List ℤ)) (x : Vector) : Type 0 where
+pub record SomeLess (book : Book) (level : Level) (grid : List (List ℤ)) (x : Vector) : Type 0 where
   pub number : ℕ
   pub below : number < size_of grid
   pub less : facet_weight book.goods level.first level.second book.bids (prices_at level (point_at grid number)) ≤ℤ facet_weight book.goods level.first level.second book.bids x
 
-pub some_less : (book : Book) (level : Plane) (grid : List (List ℤ)) (x : Vector) → AreOver book.goods book.bids → IsLevelOf book level → IsGridOf book level grid → x level.first -ℤ x level.second ≡ level.difference → facet_weight book.goods level.first level.second book.bids x <ℤ pos 0 → SomeLess book level grid x
+pub some_less : (book : Book) (level : Level) (grid : List (List ℤ)) (x : Vector) → AreOver book.goods book.bids → IsLevelOf book level → IsGridOf book level grid → x level.first -ℤ x level.second ≡ level.difference → facet_weight book.goods level.first level.second book.bids x <ℤ pos 0 → SomeLess book level grid x
 some_less book level grid x o v g e h =
     let n = book.goods in
     let i = level.first in
@@ -142,7 +142,7 @@ negative_difference n i j bs x o p q h =
 
 -- ---- every point of the grid is a point of the level
 
-pub grid_points : (book : Book) (level : Plane) (grid : List (List ℤ)) (point : List ℤ) → level.first < level.second → level.second ≤ level.goods → IsGridOf book level grid → IsOn grid point → IsPoint level point
+pub grid_points : (book : Book) (level : Level) (grid : List (List ℤ)) (point : List ℤ) → level.first < level.second → level.second ≤ level.goods → IsGridOf book level grid → IsOn grid point → IsPoint level point
 grid_points book level grid point p q g o = record {
   size = let e = o.size in let f = g.size in omega arith;
   near = All-from_get_or IsCoordinate point (pos 0) (λ k l. let m : k < length grid = omega (arith, o.size) in All-contains IsCoordinate (get_or grid k []) (get_or point k (pos 0)) (g.each k m).near (o.each k m));

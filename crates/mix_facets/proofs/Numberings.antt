@@ -6,10 +6,6 @@ use Rattle.std.proofs.lemmas.Nat.{div-add-mod', div_below, mod_below, mul-add-lt
 use Rattle.mix_facets.specs.Grids.{size_of, point_at, IsRising, IsOn}
 use Rattle.mix_facets.proofs.Risings.{rising_at}
 
-pub length-point_at : (grid : List (List ℤ)) (k : ℕ) → length (point_at grid k) ≡ length grid
-length-point_at [] k = refl
-length-point_at (us ∷ grid) k = ap suc (length-point_at grid (k / length us))
-
 -- where a number lies below a product, its rest lies below the first factor and its quotient below the second
 pub record Digits (k m s : ℕ) : Type 0 where
   pub some : 0 < m

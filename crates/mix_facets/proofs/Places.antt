@@ -1,7 +1,7 @@
 -- The places of the bids that pass a test lead to these bids.
 use Rattle.std.proofs.Common.{◌≡◌, ℕ, zero, suc, ◌+◌, ◌≤◌, ◌<◌, Bool, true, false, cond, List, [], ◌∷◌, refl, arith, ap, length, get_or, filter}
 use Rattle.mix_bids.specs.declared.bid.Bid.{Bid}
-use Rattle.mix_facets.specs.Planes.{places}
+use Rattle.mix_facets.specs.Levels.{places}
 
 pub length-places : (p : Bid → Bool) (k : ℕ) (bs : List Bid) → length (places p k bs) ≡ length (filter p bs)
 length-places p k [] = refl

@@ -20,10 +20,6 @@ rising_from us p k b rising h l m = ⊎_elim
     (λ o. ⊎_elim (λ q. let r = rising_at us p k rising q m in omega (arith, ints)) (λ q. absurd (omega arith)) o)
     (cases_order p k)
 
--- the rest of rising numbers is rising
-pub rising_rest : (u : ℤ) (us : List ℤ) → IsRising (u ∷ us) → IsRising us
-rising_rest u us rising k l d h q = rising (suc k) (suc l) d (omega arith) (omega arith)
-
 -- ---- one more
 
 -- a place between the numbers below v and those above it

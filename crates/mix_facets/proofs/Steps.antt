@@ -1,28 +1,10 @@
--- One more element at the steps of loops: places that are kept, and distinct numbers that are gathered.
-use Rattle.std.proofs.Common.{◌≡◌, ℕ, suc, ◌+◌, ◌≤◌, ◌<◌, ◌⊎◌, ◌↔◌, inl, inr, ⊎_elim, Bool, true, false, cond, List, [], ◌∷◌, ◌++◌, ℤ, refl, arith, sym, ap, ap₂, ◌∙◌, subst, Option, Some, None, length, get_or, take, drop, Contains, All, filter_map, append_assoc, add-one, eq-or-lt_of_le}
+-- One more element at the steps of loops: distinct numbers that are gathered, and entries that keep a fact of their place.
+use Rattle.std.proofs.Common.{◌≡◌, ℕ, ◌+◌, ◌≤◌, ◌<◌, ◌⊎◌, ◌↔◌, inl, inr, ⊎_elim, List, [], ◌∷◌, ◌++◌, ℤ, arith, sym, ap, ◌∙◌, subst, Option, Some, None, length, get_or, take, Contains, All, filter_map, eq-or-lt_of_le}
 use Rattle.std.specs.List.{cons_option}
-use Rattle.std.proofs.lemmas.List.{drop_more, drop_all, take_more, take_all, append-nil, get_or_push, get_or_append_left}
+use Rattle.std.proofs.lemmas.List.{take_more, take_all, get_or_push, get_or_append_left}
 use Rattle.std.proofs.lemmas.List.Elements.{filter_map-append, Contains-append_left, Contains-append_right, Contains-append_cases, Contains-get_or, All-contains}
 use Rattle.mix_bids.specs.declared.bid.Bid.{Bid}
-use Rattle.mix_facets.specs.Planes.{places}
 use Rattle.mix_facets.proofs.Members.{contains_first}
-
--- ---- places
-
-cond_front : (t : Bool) (k : ℕ) (rest : List ℕ) → cond t (k ∷ rest) rest ≡ cond t (k ∷ []) [] ++ rest
-cond_front true k rest = refl
-cond_front false k rest = refl
-
-pub places_step : (p : Bid → Bool) (bs : List Bid) (k : ℕ) (b : Bid) (t : Bool) (out total : List ℕ) → k < length bs → b ≡ get_or bs k b → t ≡ p b → out ++ places p k (drop k bs) ≡ total → (out ++ cond t (k ∷ []) []) ++ places p (k + 1) (drop (k + 1) bs) ≡ total
-places_step p bs k b t out total l q e h =
-    let rest = places p (k + 1) (drop (k + 1) bs) in
-    let a : places p k (drop k bs) ≡ cond (p (get_or bs k b)) (k ∷ places p (suc k) (drop (k + 1) bs)) (places p (suc k) (drop (k + 1) bs)) = ap (places p k) (drop_more bs k b l) in
-    let c : cond (p (get_or bs k b)) (k ∷ places p (suc k) (drop (k + 1) bs)) (places p (suc k) (drop (k + 1) bs)) ≡ cond t (k ∷ rest) rest =
-    ap₂ (λ u n. cond u (k ∷ places p n (drop (k + 1) bs)) (places p n (drop (k + 1) bs))) (ap p (sym q) ∙ sym e) (sym (add-one k)) in
-    append_assoc out (cond t (k ∷ []) []) rest ∙ ap (λ z. out ++ z) (sym (cond_front t k rest)) ∙ ap (λ z. out ++ z) (sym (a ∙ c)) ∙ h
-
-pub places_end : (p : Bid → Bool) (bs : List Bid) (k : ℕ) (out total : List ℕ) → length bs ≤ k → out ++ places p k (drop k bs) ≡ total → out ≡ total
-places_end p bs k out total l h = sym (append-nil out) ∙ ap (λ z. out ++ places p k z) (sym (drop_all k bs l)) ∙ h
 
 -- ---- numbers
 

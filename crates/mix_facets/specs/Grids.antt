@@ -1,7 +1,7 @@
 -- Grids: the points with one candidate for each coordinate.
 use Rattle.std.specs.Prelude.{◌≡◌, ◌↔◌, ℕ, suc, ◌*◌, ◌/◌, ◌%◌, ◌<◌, ◌≤◌, List, [], ◌∷◌, ℤ, pos, ◌<ℤ◌, get_or, length, All, AllPairs, Contains}
 use Rattle.mix_bids.specs.Bids.{Book}
-use Rattle.mix_facets.specs.Planes.{Plane, bids_of}
+use Rattle.mix_facets.specs.Levels.{Level, bids_of}
 use Rattle.mix_bids.specs.Levels.{other}
 use Rattle.mix_facets.specs.Points.{IsCoordinate, IsNullCoordinate}
 use Rattle.mix_facets.specs.Candidates.{candidates}
@@ -26,7 +26,7 @@ pub record IsOn (grid : List (List ℤ)) (point : List ℤ) : Type 0 where
   pub each : (k : ℕ) → k < length grid → Contains (get_or grid k []) (get_or point k (pos 0))
 
 -- the candidates of the choice c at a level of a list, each once, in rising order
-pub record AreCandidates (book : Book) (level : Plane) (c : ℕ) (us : List ℤ) : Type 0 where
+pub record AreCandidates (book : Book) (level : Level) (c : ℕ) (us : List ℤ) : Type 0 where
   pub members : (u : ℤ) → Contains us u ↔ Contains (candidates level.first c (bids_of book level)) u
   pub rising : IsRising us
   pub few : length us ≤ 401
@@ -34,6 +34,6 @@ pub record AreCandidates (book : Book) (level : Plane) (c : ℕ) (us : List ℤ)
   pub null : c ≡ 0 → All IsNullCoordinate us
 
 -- the grid of a level of a list: the candidates of each other choice, in rising order
-pub record IsGridOf (book : Book) (level : Plane) (grid : List (List ℤ)) : Type 0 where
+pub record IsGridOf (book : Book) (level : Level) (grid : List (List ℤ)) : Type 0 where
   pub size : suc (length grid) ≡ level.goods
   pub each : (k : ℕ) → k < length grid → AreCandidates book level (other level.first level.second k) (get_or grid k [])

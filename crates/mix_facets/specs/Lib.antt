@@ -1,4 +1,4 @@
-pub mod Planes
+pub mod Levels
 pub mod Points
 pub mod Counted
 pub mod Candidates

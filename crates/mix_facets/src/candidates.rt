@@ -2,7 +2,7 @@
 ghost use Rattle.std.specs.Prelude.{◌≡◌, ◌↔◌, ◌≤◌, ℤ, cond, eqb, length, None, Some, Contains, All, IfOk, filter_map};
 ghost use Rattle.mix_num.specs.Ranges.{Lies};
 ghost use Rattle.mix_bids.specs.Bids.{IsBid};
-ghost use Rattle.mix_facets.specs.Planes.{bids_of, IsLevelOf};
+ghost use Rattle.mix_facets.specs.Levels.{bids_of, IsLevelOf};
 ghost use Rattle.mix_facets.specs.Points.{IsCoordinate, IsNullCoordinate};
 ghost use Rattle.mix_facets.specs.Candidates.{counting_from as counting_from_of, lesser as lesser_of, lowest as lowest_of};
 ghost use Rattle.mix_facets.specs.Grids.{AreCandidates};
@@ -10,7 +10,7 @@ ghost use Rattle.mix_facets.specs.Grids.{AreCandidates};
 use crate::level::Level;
 use crate::numbers::Numbers;
 use mix_bids::{Bid, BidList, lead, negative_lead};
-use mix_num::Memory;
+use mix_num::{MOST_VALUE, Memory};
 use std::alloc::Global;
 
 /// The candidates of a choice at a level of the list, each once, or want of memory.
@@ -78,7 +78,7 @@ fn lowest(list: &BidList, level: &Level, choice: usize) -> i64
     requires level { IsLevelOf list.now level.now }
     requires choice { choice ≤ list.now.goods }
     ensures value { result ≡ lowest_of level.now.first choice (bids_of list.now level.now) }
-    ensures range { Lies 1000000 result }
+    ensures range { Lies MOST_VALUE result }
 {
     let mut least = None;
     for number in 0..level.count(list) {
@@ -89,10 +89,10 @@ fn lowest(list: &BidList, level: &Level, choice: usize) -> i64
 
 /// The lesser of two numbers, or the one that is there.
 fn lesser(one: Option<i64>, other: Option<i64>) -> Option<i64>
-    requires one { (v : ℤ) → one ≡ Some v → Lies 1000000 v }
-    requires other { (v : ℤ) → other ≡ Some v → Lies 1000000 v }
+    requires one { (v : ℤ) → one ≡ Some v → Lies MOST_VALUE v }
+    requires other { (v : ℤ) → other ≡ Some v → Lies MOST_VALUE v }
     ensures value { result ≡ lesser_of one other }
-    ensures range { (v : ℤ) → result ≡ Some v → Lies 1000000 v }
+    ensures range { (v : ℤ) → result ≡ Some v → Lies MOST_VALUE v }
 {
     match one {
         Some(one) => match other {

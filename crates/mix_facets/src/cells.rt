@@ -4,7 +4,7 @@ ghost use Rattle.mix_num.specs.Vectors.{Vector, Agree};
 ghost use Rattle.mix_num.specs.Ranges.{Lies};
 ghost use Rattle.mix_bids.specs.Bids.{facet_weight, IsBid};
 ghost use Rattle.mix_bids.specs.Leads.{lead_of};
-ghost use Rattle.mix_facets.specs.Planes.{bids_of, IsLevelOf};
+ghost use Rattle.mix_facets.specs.Levels.{bids_of, IsLevelOf};
 ghost use Rattle.mix_bids.specs.Levels.{other as other_of};
 ghost use Rattle.mix_facets.specs.Points.{prices_at};
 ghost use Rattle.mix_facets.specs.Grids.{point_at, size_of, IsGridOf};
@@ -57,9 +57,7 @@ fn first_weights(
     ensures size { IfOk result (λ cells. length cells.items ≡ size_of grid.now) }
     ensures weights { IfOk result (λ cells. (k : ℕ) → k < size_of grid.now → get_or cells.items k (pos 0) ≡ weight_held level.now.first level.now.second 0 grid.now (bids_of list.now level.now) k) }
 {
-    let Ok(mut cells) = vec![in alloc; 0; grid.size() as usize] else {
-        return Err(Memory);
-    };
+    let mut cells = vec![in alloc; 0; grid.size() as usize]?;
     for number in 0..level.count(list) {
         put(&mut cells, level.bid(list, number), level, grid);
     }

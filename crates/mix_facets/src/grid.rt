@@ -2,7 +2,7 @@
 ghost use Rattle.std.specs.Prelude.{◌≡◌, ◌≤◌, ◌<◌, ◌^◌, ℕ, ℤ, List, pos, ◌-ℤ◌, ◌≤ℤ◌, ◌<ℤ◌, IfOk};
 ghost use Rattle.mix_num.specs.Vectors.{Vector};
 ghost use Rattle.mix_bids.specs.Bids.{facet_weight};
-ghost use Rattle.mix_facets.specs.Planes.{IsLevelOf};
+ghost use Rattle.mix_facets.specs.Levels.{IsLevelOf};
 ghost use Rattle.mix_facets.specs.Points.{prices_at, IsPoint};
 ghost use Rattle.mix_facets.specs.Grids.{point_at, size_of, IsGridOf, IsOn};
 
@@ -81,9 +81,7 @@ pub fn grid_of(alloc: Global, list: &BidList, level: &Level) -> Result<Grid, Mem
     let mut candidates = Vec::new(alloc);
     for coordinate in 0..level.goods - 1 {
         let choice = other(level.first, level.second, coordinate);
-        let Ok(()) = candidates.push(candidates_of(alloc, list, level, choice)?) else {
-            return Err(Memory);
-        };
+        candidates.push(candidates_of(alloc, list, level, choice)?)?;
     }
     Ok(Grid { candidates })
 }

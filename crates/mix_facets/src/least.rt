@@ -3,7 +3,7 @@ ghost use Rattle.std.specs.Prelude.{◌≡◌, ℕ, ◌<◌, pos, ◌≤ℤ◌, 
 ghost use Rattle.mix_num.specs.Vectors.{Vector, Agree};
 ghost use Rattle.mix_num.specs.Ranges.{Lies};
 ghost use Rattle.mix_bids.specs.Bids.{facet_weight};
-ghost use Rattle.mix_facets.specs.Planes.{IsLevelOf};
+ghost use Rattle.mix_facets.specs.Levels.{IsLevelOf};
 ghost use Rattle.mix_facets.specs.Points.{prices_at};
 ghost use Rattle.mix_facets.specs.Grids.{point_at, size_of, IsGridOf};
 

@@ -3,10 +3,10 @@ ghost use Rattle.std.specs.Prelude.{◌≡◌, ◌<◌, ◌≤◌, ◌++◌, ◌
 ghost use Rattle.mix_num.specs.Ranges.{Lies};
 ghost use Rattle.mix_bids.specs.Bids.{AreBids, IsBid};
 ghost use Rattle.mix_bids.specs.Levels.{has_lead};
-ghost use Rattle.mix_facets.specs.Planes.{bids_of, level_at, places as places_where, IsLevelOf};
+ghost use Rattle.mix_facets.specs.Levels.{bids_of, level_at, places as places_where, IsLevelOf};
 
 use mix_bids::{Bid, BidList, has_difference};
-use mix_num::Memory;
+use mix_num::{MOST_VALUE, Memory};
 use std::alloc::Global;
 use std::marker::Model;
 
@@ -24,9 +24,10 @@ pub struct Level {
 impl Model for Level {
     ghost use Rattle.std.specs.Prelude.{◌<◌, ◌≤◌};
     ghost use Rattle.mix_num.specs.Ranges.{Lies};
-    ghost use Rattle.mix_facets.specs.Planes.{Plane};
+    ghost use Rattle.mix_num.specs.declared.limits.TheConstants.{MOST_VALUE};
+    ghost use Rattle.mix_facets.specs.Levels.{Level};
 
-    ghost Value = { Plane };
+    ghost Value = { Level };
 
     ghost view = { λ level. record {
       goods = level.goods;
@@ -36,7 +37,7 @@ impl Model for Level {
       places = level.places.items;
     } };
 
-    ghost invariant = { λ level. (level.first < level.second) × (level.second ≤ level.goods) × (level.goods ≤ 8) × Lies 1000000 level.difference };
+    ghost invariant = { λ level. (level.first < level.second) × (level.second ≤ level.goods) × (level.goods ≤ 8) × Lies MOST_VALUE level.difference };
 }
 
 impl Level {
@@ -50,7 +51,7 @@ impl Level {
     ) -> Result<Level, Memory>
         requires order { first < second }
         requires within { second ≤ list.now.goods }
-        requires difference { Lies 1000000 difference }
+        requires difference { Lies MOST_VALUE difference }
         ensures { IfOk result (λ level. level ≡ level_at list.now first second difference) }
     {
         let goods = list.goods();
@@ -97,7 +98,7 @@ fn places_of(
 ) -> Result<Vec<usize>, Memory>
     requires first { first ≤ list.now.goods }
     requires second { second ≤ list.now.goods }
-    requires difference { Lies 1000000 difference }
+    requires difference { Lies MOST_VALUE difference }
     ensures { IfOk result (λ found. found.items ≡ places_where (has_lead first second difference) 0 list.now.bids) }
 {
     let mut places = Vec::new(alloc);
@@ -118,8 +119,6 @@ fn push_if(places: &mut Vec<usize>, wanted: bool, place: usize) -> Result<(), Me
     if !wanted {
         return Ok(());
     }
-    let Ok(()) = places.push(place) else {
-        return Err(Memory);
-    };
+    places.push(place)?;
     Ok(())
 }

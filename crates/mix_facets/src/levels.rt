@@ -4,12 +4,12 @@ ghost use Rattle.mix_num.specs.Vectors.{Vector};
 ghost use Rattle.mix_num.specs.Ranges.{Lies};
 ghost use Rattle.mix_bids.specs.Bids.{facet_weight, AreBids};
 ghost use Rattle.mix_bids.specs.Levels.{differences};
-ghost use Rattle.mix_facets.specs.Planes.{AreLevelsOf};
+ghost use Rattle.mix_facets.specs.Levels.{AreLevelsOf};
 
 use crate::level::Level;
 use crate::numbers::Numbers;
 use mix_bids::{BidList, negative_lead};
-use mix_num::Memory;
+use mix_num::{MOST_VALUE, Memory};
 use std::alloc::Global;
 use std::marker::Model;
 
@@ -21,9 +21,9 @@ pub struct Levels {
 
 impl Model for Levels {
     ghost use Rattle.std.specs.Prelude.{List};
-    ghost use Rattle.mix_facets.specs.Planes.{Plane};
+    ghost use Rattle.mix_facets.specs.Levels.{Level};
 
-    ghost Value = { List Plane };
+    ghost Value = { List Level };
 
     ghost view = { λ list. list.levels.items };
 }
@@ -63,9 +63,7 @@ pub fn levels_of(
     let mut levels = Vec::new(alloc);
     for place in 0..differences.len() {
         let level = Level::of(alloc, list, first, second, differences.at(place))?;
-        let Ok(()) = levels.push(level) else {
-            return Err(Memory);
-        };
+        levels.push(level)?;
     }
     Ok(Levels { levels })
 }
@@ -80,7 +78,7 @@ fn differences_of(
     requires first { first ≤ list.now.goods }
     requires second { second ≤ list.now.goods }
     ensures members { IfOk result (λ numbers. (d : ℤ) → Contains numbers d ↔ Contains (differences first second list.now.bids) d) }
-    ensures range { IfOk result (All (Lies 1000000)) }
+    ensures range { IfOk result (All (Lies MOST_VALUE)) }
     ensures proper { AreBids list.now.goods list.now.bids }
 {
     let mut numbers = Numbers::new(alloc);

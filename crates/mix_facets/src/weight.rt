@@ -3,7 +3,7 @@ ghost use Rattle.std.specs.Prelude.{◌≡◌, ◌≤◌, cond, pos};
 ghost use Rattle.mix_num.specs.Vectors.{Vector, Agree};
 ghost use Rattle.mix_num.specs.Ranges.{Lies};
 ghost use Rattle.mix_bids.specs.Bids.{facet_weight, IsBid};
-ghost use Rattle.mix_facets.specs.Planes.{IsLevelOf};
+ghost use Rattle.mix_facets.specs.Levels.{IsLevelOf};
 ghost use Rattle.mix_facets.specs.Points.{coordinate, prices_at, IsPoint};
 ghost use Rattle.mix_facets.specs.Counted.{is_counted as is_counted_at, stays_below as stays_below_at};
 

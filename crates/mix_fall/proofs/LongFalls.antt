@@ -16,10 +16,10 @@ use Rattle.mix_law.proofs.Lattice.{lattice, lesser, greater, over, over_is}
 use Rattle.mix_market.specs.Lyapunov.{IsBelow, IsLeastPoint}
 use Rattle.mix_market.specs.LargestFalls.{IsLargestFall, IsLeastAbove, MayFall}
 use Rattle.mix_market.specs.Steepest.{slope_down, slope_of}
-use Rattle.mix_market.proofs.LargestFalls.{fall_counts}
-use Rattle.mix_market.proofs.LongRises.{IsLinear}
-use Rattle.mix_market.proofs.Rooms.{count, depth, depth-lowered}
-use Rattle.mix_market.proofs.Straights.{times_next}
+use Rattle.mix_step.proofs.LargestFalls.{fall_counts}
+use Rattle.mix_step.proofs.LongRises.{IsLinear}
+use Rattle.mix_step.proofs.Rooms.{count, depth, depth-lowered}
+use Rattle.mix_step.proofs.Straights.{times_next}
 use Rattle.mix_fall.specs.LongFalls.{IsLongFall}
 
 null_raised : (a : ℤ) (s : Bool) → a ≡ pos 0 → s ≡ false → a +ℤ bit s ≡ pos 0

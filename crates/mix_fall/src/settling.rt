@@ -12,7 +12,7 @@ ghost use Rattle.mix_fall.specs.LongFalls.{IsLongFall};
 use crate::largest::largest_fall;
 use mix_law::Convex;
 use mix_market::{Market, are_above};
-use mix_num::{Prices, Set, lower, raise};
+use mix_num::{MOST_VALUE, Prices, Set, copy, lower, raise};
 use mix_step::{Steps, least_step};
 use std::sync::ledger::Ledger;
 
@@ -28,11 +28,11 @@ pub fn settle<D: Convex, L: Ledger>(
     start: &Prices,
     steps: &mut Steps<L>,
 ) -> Prices
-    requires floor { AreWithin 1000000 (goods_of market.now) floor.now.items }
-    requires start { AreWithin 1000000 (goods_of market.now) start.now.items }
+    requires floor { AreWithin MOST_VALUE (goods_of market.now) floor.now.items }
+    requires start { AreWithin MOST_VALUE (goods_of market.now) start.now.items }
     requires above { IsBelow (goods_of market.now) (with_null floor.now.items) (with_null start.now.items) }
     ensures least { IsLeastPoint (goods_of market.now) (lyapunov_of market.now) (with_null floor.now.items) (with_null result.items) }
-    ensures range { AreWithin 1000000 (goods_of market.now) result.items }
+    ensures range { AreWithin MOST_VALUE (goods_of market.now) result.items }
     ensures cost { (u : Vector) → u 0 ≡ pos 0 → IsLeastPoint (goods_of market.now) (lyapunov_of market.now) (with_null start.now.items) u
         → pos steps.new ≤ℤ (((pos steps.old +ℤ greatest_gap (goods_of market.now) u (with_null start.now.items)) +ℤ greatest_gap (goods_of market.now) u (with_null result.items)) +ℤ pos 2) }
 {
@@ -42,9 +42,9 @@ pub fn settle<D: Convex, L: Ledger>(
 
 /// The least point at or above the start, by least steps that go on while their slope is the same.
 fn rise<D: Convex, L: Ledger>(market: &Market<D>, start: &Prices, steps: &mut Steps<L>) -> Prices
-    requires start { AreWithin 1000000 (goods_of market.now) start.now.items }
+    requires start { AreWithin MOST_VALUE (goods_of market.now) start.now.items }
     ensures least { IsLeastPoint (goods_of market.now) (lyapunov_of market.now) (with_null start.now.items) (with_null result.items) }
-    ensures range { AreWithin 1000000 (goods_of market.now) result.items }
+    ensures range { AreWithin MOST_VALUE (goods_of market.now) result.items }
     ensures cost { pos steps.new ≤ℤ ((pos steps.old +ℤ greatest_gap (goods_of market.now) (with_null result.items) (with_null start.now.items)) +ℤ pos 1) }
 {
     let mut prices = copy(start);
@@ -66,12 +66,12 @@ fn fall<D: Convex, L: Ledger>(
     high: Prices,
     steps: &mut Steps<L>,
 ) -> Prices
-    requires floor { AreWithin 1000000 (goods_of market.now) floor.now.items }
-    requires high { AreWithin 1000000 (goods_of market.now) high.items }
+    requires floor { AreWithin MOST_VALUE (goods_of market.now) floor.now.items }
+    requires high { AreWithin MOST_VALUE (goods_of market.now) high.items }
     requires above { IsBelow (goods_of market.now) (with_null floor.now.items) (with_null high.items) }
     requires least { IsLeastAbove (goods_of market.now) (lyapunov_of market.now) (with_null high.items) }
     ensures least { IsLeastPoint (goods_of market.now) (lyapunov_of market.now) (with_null floor.now.items) (with_null result.items) }
-    ensures range { AreWithin 1000000 (goods_of market.now) result.items }
+    ensures range { AreWithin MOST_VALUE (goods_of market.now) result.items }
     ensures cost { pos steps.new ≤ℤ ((pos steps.old +ℤ greatest_gap (goods_of market.now) (with_null high.items) (with_null result.items)) +ℤ pos 1) }
 {
     let mut prices = high;
@@ -89,7 +89,7 @@ fn fall<D: Convex, L: Ledger>(
 /// stays the same and the prices above the floor's.
 fn fall_length<D: Convex>(market: &Market<D>, floor: &Prices, prices: &Prices, set: Set) -> i64
     requires floor { length floor.now.items ≡ goods_of market.now }
-    requires prices { AreWithin 1000000 (goods_of market.now) prices.now.items }
+    requires prices { AreWithin MOST_VALUE (goods_of market.now) prices.now.items }
     requires above { IsBelow (goods_of market.now) (with_null floor.now.items) (with_null prices.now.items) }
     requires goods { IsSetOfGoods (goods_of market.now) set }
     requires some { 0 < set }
@@ -115,7 +115,7 @@ fn falls_evenly<D: Convex>(
     steps: i64,
 ) -> bool
     requires floor { length floor.now.items ≡ goods_of market.now }
-    requires prices { AreWithin 1000000 (goods_of market.now) prices.now.items }
+    requires prices { AreWithin MOST_VALUE (goods_of market.now) prices.now.items }
     requires above { IsBelow (goods_of market.now) (with_null floor.now.items) (with_null prices.now.items) }
     requires goods { IsSetOfGoods (goods_of market.now) set }
     requires some { 0 < set }
@@ -124,11 +124,4 @@ fn falls_evenly<D: Convex>(
 {
     let fallen = lower(prices, set, steps);
     are_above(floor, &fallen, set) && market.reach(&fallen, set) >= steps
-}
-
-/// The same prices.
-fn copy(prices: &Prices) -> Prices
-    ensures { result.items ≡ prices.now.items }
-{
-    Prices::try_from(prices.as_slice()).unwrap()
 }

@@ -3,12 +3,12 @@ ghost use Rattle.std.specs.Prelude.{◌≡◌, ◌<◌, ◌≤◌, ◌≤ℤ◌,
 ghost use Rattle.mix_num.specs.Ranges.{AreWithin};
 ghost use Rattle.mix_market.specs.Markets.{goods_of, reserves_of};
 
+use crate::directions::{steepest_fall, steepest_rise};
 use crate::look::Look;
-use crate::steps::{steepest_fall, steepest_rise};
-use crate::tally::Tally;
+use crate::set_sums::SetSums;
 use mix_cap::Member;
 use mix_market::Market;
-use mix_num::{Prices, Set};
+use mix_num::{MOST_VALUE, Prices, Set};
 
 /// A guess of the least point of the market's Lyapunov function at or above the reserves: prices from the reserves to 1,000,000.
 /// It takes no memory.
@@ -18,12 +18,12 @@ use mix_num::{Prices, Set};
 /// where the function falls over that length, not only at its start; at the last length that is exact. Of the bids of a bidder
 /// with a cap it counts as many units as the cap lets through.
 pub fn guess_prices(market: &Market<Member>) -> Prices
-    ensures range { AreWithin 1000000 (goods_of market.now) result.items }
+    ensures range { AreWithin MOST_VALUE (goods_of market.now) result.items }
     ensures floor { (k : ℕ) → k < goods_of market.now → get_or (reserves_of market.now) k (pos 0) ≤ℤ get_or result.items k (pos 0) }
 {
     let reserve = market.seller().reserve();
     let floor = numbers(reserve);
-    let supply = Tally::of_goods(market.seller().supply());
+    let supply = SetSums::of_goods(market.seller().supply());
     let top = highest_top(market);
     let mut look = Look::new();
     let mut prices = floor;
@@ -49,7 +49,7 @@ fn highest_top(market: &Market<Member>) -> i64 {
 /// Steps of a length of `2^halvings` from the prices for as long as they lead on, and at most some few.
 fn settle(
     market: &Market<Member>,
-    supply: &Tally,
+    supply: &SetSums,
     floor: &[i64; 8],
     halvings: u32,
     look: &mut Look,
@@ -107,8 +107,8 @@ fn numbers(list: &Prices) -> [i64; 8] {
 /// A price for each good: the number at its place, from the reserve to 1,000,000.
 fn bounded(numbers: &[i64; 8], reserve: &Prices) -> Prices
     requires few { length reserve.now.items ≤ 8 }
-    requires reserve { AreWithin 1000000 (length reserve.now.items) reserve.now.items }
-    ensures range { AreWithin 1000000 (length reserve.now.items) result.items }
+    requires reserve { AreWithin MOST_VALUE (length reserve.now.items) reserve.now.items }
+    ensures range { AreWithin MOST_VALUE (length reserve.now.items) result.items }
     ensures floor { (k : ℕ) → k < length reserve.now.items → get_or reserve.now.items k (pos 0) ≤ℤ get_or result.items k (pos 0) }
 {
     let mut prices = Prices::new();

@@ -3,11 +3,11 @@
 #![tactic(auto)]
 
 mod best;
+mod directions;
 mod guess;
 mod likings;
 mod look;
-mod steps;
-mod tally;
+mod set_sums;
 
 pub use guess::guess_prices;
 

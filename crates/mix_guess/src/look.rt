@@ -2,28 +2,28 @@
 ghost use Rattle.std.specs.Prelude.{◌≤◌};
 
 use crate::likings::{Liking, likings_at, threshold_of, units_from};
-use crate::tally::Tally;
+use crate::set_sums::SetSums;
 use mix_cap::{Capped, Member};
 use mix_market::Market;
 
 /// For each set of choices the weights of the bids that like best some of the set, as far as caps let them through.
 #[derive(Drop)]
 pub struct Look {
-    weights: Tally,
-    passing: Tally,
+    weights: SetSums,
+    passing: SetSums,
 }
 
 impl Look {
     /// Nothing is counted.
     pub fn new() -> Look {
         Look {
-            weights: Tally::new(),
-            passing: Tally::new(),
+            weights: SetSums::new(),
+            passing: SetSums::new(),
         }
     }
 
     /// What was counted last, summed over subsets.
-    pub fn weights(&self) -> &Tally {
+    pub fn weights(&self) -> &SetSums {
         &self.weights
     }
 
@@ -55,7 +55,7 @@ impl Look {
         let likings = likings_at(capped.list(), prices, halvings);
         let threshold = threshold_of(likings.as_slice(), capped.cap(), halvings);
         let spare = units_from(likings.as_slice(), threshold).wrapping_sub(capped.cap());
-        let mut level = Tally::new();
+        let mut level = SetSums::new();
         add_by_gain(likings.as_slice(), threshold, &mut self.weights, &mut level);
         if spare > 0 {
             level.sum_over_subsets(n);
@@ -66,8 +66,8 @@ impl Look {
     }
 }
 
-/// Adds the units of what gains more than the threshold to the first tally, and of what gains just that to the second.
-fn add_by_gain(likings: &[Liking], threshold: i64, above: &mut Tally, level: &mut Tally) {
+/// Adds the units of what gains more than the threshold to the first sums, and of what gains just that to the second.
+fn add_by_gain(likings: &[Liking], threshold: i64, above: &mut SetSums, level: &mut SetSums) {
     for liking in likings {
         if liking.gain > threshold {
             above.add(liking.choices, liking.units);

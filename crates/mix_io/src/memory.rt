@@ -156,9 +156,7 @@ impl MemorySink {
           faults = 0;
         }) }
     {
-        let Ok(bytes) = Vec::with_capacity(alloc, room) else {
-            return Err(Memory);
-        };
+        let bytes = Vec::with_capacity(alloc, room)?;
         Ok(MemorySink {
             bytes,
             room,

@@ -6,6 +6,7 @@ ghost use Rattle.mix_io.specs.Given.{AppendsPrefix, AreAll, IsLonger};
 ghost use Rattle.mix_io.specs.Taken.{TakesFor};
 
 use crate::ends::{Sink, Source};
+use mix_num::MOST_BYTES;
 use std::alloc::Global;
 use thiserror::Error;
 
@@ -27,7 +28,7 @@ pub struct WriteFault;
 // How many bytes are asked for at once.
 const CHUNK: usize = 4096;
 
-/// Reads to the end, and gives all bytes: at most `limit`, which is at most 16,777,216.
+/// Reads to the end, and gives all bytes: at most `limit`, which is at most [`MOST_BYTES`].
 ///
 /// `ReadFault` comes at the first call that fails, and only where the count of faults rose. `TooLong` comes exactly
 /// where `limit + 1` bytes were given before the end and before a fault; no more are asked for. `Memory` means that
@@ -37,7 +38,7 @@ pub fn read_all<S: Source>(
     source: &mut S,
     limit: usize,
 ) -> Result<Vec<u8>, ReadRefused>
-    requires { limit ≤ 16777216 }
+    requires { limit ≤ MOST_BYTES }
     ensures all { IfOk result (λ bytes. AreAll (S.left source.old) bytes.items) }
     ensures short { IfOk result (λ bytes. length bytes.items ≤ limit) }
     ensures end { OnOk result (IsAtEnd (S.left source.new)) }

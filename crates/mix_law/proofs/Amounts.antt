@@ -53,8 +53,8 @@ module _ (n : ℕ) (f : Vector → ℤ) (p bundle : List ℤ) (some : 1 ≤ n) (
 
   pub some-where_demanded : pos 0 ≤ℤ get_or bundle i (pos 0)
   some-where_demanded =
-      let less = decreasing some laws.convex (with_null p) raised (λ k l. up_at (with_null p k) (eqb k (suc i))) in
-      let reads = laws.convex.reads (with_null q) raised same in
+      let less = decreasing some laws.l_natural (with_null p) raised (λ k l. up_at (with_null p k) (eqb k (suc i))) in
+      let reads = laws.l_natural.reads (with_null q) raised same in
       let d = demanded q size in
       let a = dot-is p bundle in
       let b = dot-is q bundle in

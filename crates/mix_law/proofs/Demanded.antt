@@ -7,7 +7,7 @@ use Rattle.mix_num.specs.Sums.{entries, total, sum_in, dot_of}
 use Rattle.mix_num.specs.Tables.{Fits, null_share}
 use Rattle.mix_num.proofs.Masks.{mask_of, mask_below, mask_members}
 use Rattle.mix_num.proofs.Additions.{sum_to-front, sum_to-same, dot_to-front}
-use Rattle.mix_law.specs.Members.{IsConvex, keeps_local, rho, tilted}
+use Rattle.mix_law.specs.Members.{IsLNatural, keeps_local, rho, tilted}
 use Rattle.mix_law.specs.Demands.{IsDemanded, IsTableOf}
 use Rattle.mix_num.proofs.Costs.{dot_plus}
 use Rattle.mix_law.proofs.Linear.{plus_linear}
@@ -75,7 +75,7 @@ with_null-listed : (n : ℕ) (z : Vector) → z 0 ≡ pos 0 → (k : ℕ) → k 
 with_null-listed n z e zero h = sym e
 with_null-listed n z e (suc k) h = get-listed n z k (omega arith)
 
-module _ {n : ℕ} {f : Vector → ℤ} {w : ℤ} {top : ℕ → ℤ} (c : IsConvex n f w top) where
+module _ {n : ℕ} {f : Vector → ℤ} {w : ℤ} {top : ℕ → ℤ} (c : IsLNatural n f w top) where
   -- amounts whose sum is the total, and of which no set has more than the table's number, make the point least
   least-where_fits : (x p : Vector) → sum_to (suc n) x ≡ w → ((s : Choices) → sum_of (suc n) x s ≤ℤ rho f p s) → (y : Vector) → tilted n f x p ≤ℤ tilted n f x y
   least-where_fits x p e h =

@@ -10,7 +10,7 @@ use Rattle.mix_num.specs.Vectors.{Vector, Choices, bit, both, either, minus, shi
 use Rattle.mix_num.specs.Ranges.{Lies}
 use Rattle.mix_num.specs.Tables.{IsProper, number_of, whole}
 use Rattle.mix_num.proofs.Masks.{members_above, whole_members, and_members, or_members}
-use Rattle.mix_law.specs.Members.{IsConvex, keeps_local, rho}
+use Rattle.mix_law.specs.Members.{IsLNatural, keeps_local, rho}
 use Rattle.mix_law.specs.Demands.{IsTableOf}
 use Rattle.mix_law.proofs.Lattice.{lattice, lesser, greater}
 use Rattle.mix_law.proofs.Ranges.{rho_range, rho_grows}
@@ -31,7 +31,7 @@ either_of : (s t r : Bool) → r ≡ cond s true t → s ≡ true → r ≡ true
 either_of true t r e h = e
 either_of false t r e h = absurd (false≢true h)
 
-module _ {n : ℕ} {f : Vector → ℤ} {w : ℤ} {top : ℕ → ℤ} (c : IsConvex n f w top) where
+module _ {n : ℕ} {f : Vector → ℤ} {w : ℤ} {top : ℕ → ℤ} (c : IsLNatural n f w top) where
   -- what both sets give and what either gives are together no more than the two
   pub rho_submodular : (x : Vector) (s t : Choices) → (rho f x (both s t) +ℤ rho f x (either s t)) ≤ℤ (rho f x s +ℤ rho f x t)
   rho_submodular x s t =

@@ -8,7 +8,7 @@ use Rattle.std.proofs.Math.IntN.{*ℤ_comm, zero-*ℤ}
 use Rattle.mix_num.specs.Vectors.{Vector, Choices, bit, plus, minus, only, outside, ray, shifted, with_null}
 use Rattle.mix_num.specs.Ranges.{Lies, HaveRoom}
 use Rattle.mix_num.proofs.Products.{*ℤ-sum, product_grows, sum-*ℤ, difference-*ℤ}
-use Rattle.mix_law.specs.Members.{IsConvex, keeps_local, excess, fall_of, rho}
+use Rattle.mix_law.specs.Members.{IsLNatural, keeps_local, excess, fall_of, rho}
 use Rattle.mix_law.specs.Totals.{total_nonnegative}
 use Rattle.mix_law.proofs.Lattice.{apart, more, over, over_is, along, Each, spread, Each-spread, along-spread}
 use Rattle.mix_law.proofs.Midpoint.{slopes_rise}
@@ -85,7 +85,7 @@ at_least : (a : ℤ) (b : Bool) → a ≤ℤ (a +ℤ bit b)
 at_least a true = omega (arith, ints)
 at_least a false = omega (arith, ints)
 
-module _ {n : ℕ} {f : Vector → ℤ} {w : ℤ} {top : ℕ → ℤ} (some : 1 ≤ n) (c : IsConvex n f w top) where
+module _ {n : ℕ} {f : Vector → ℤ} {w : ℤ} {top : ℕ → ℤ} (some : 1 ≤ n) (c : IsLNatural n f w top) where
   -- a good's price that rises never makes the function rise: it falls least where the null choice's price is low, and there not at all
   good_falls : (x : Vector) (i : ℕ) → 1 ≤ i → i ≤ n → f (plus x (only i)) ≤ℤ f x
   good_falls x i l h =

@@ -9,7 +9,7 @@ excess zero top x = pos 0
 excess (suc n) top x = int_max (excess n top x) (top (suc n) -ℤ x (suc n))
 
 -- the laws of a member over n goods: its function, its total and the top of each good
-pub record IsConvex (n : ℕ) (f : Vector → ℤ) (total : ℤ) (top : ℕ → ℤ) : Type 0 where
+pub record IsLNatural (n : ℕ) (f : Vector → ℤ) (total : ℤ) (top : ℕ → ℤ) : Type 0 where
   -- the function reads the choices 0 to n alone
   pub reads : (x y : Vector) → Agree n x y → f x ≡ f y
   -- raising every entry by k lowers it by k totals
@@ -28,14 +28,14 @@ pub record KeepsLocal (n : ℕ) (f : Vector → ℤ) (total : ℤ) : Type 0 wher
   pub local : (x : Vector) (i j : ℕ) → i ≤ n → j ≤ n → i ≢ j → (f x +ℤ f (plus (plus x (only i)) (only j))) ≤ℤ (f (plus x (only i)) +ℤ f (plus x (only j)))
 
 -- every member's function keeps them
-pub keeps_local : {n : ℕ} {f : Vector → ℤ} {total : ℤ} {top : ℕ → ℤ} → IsConvex n f total top → KeepsLocal n f total
+pub keeps_local : {n : ℕ} {f : Vector → ℤ} {total : ℤ} {top : ℕ → ℤ} → IsLNatural n f total top → KeepsLocal n f total
 keeps_local c = record { reads = c.reads; shift = c.shift; local = c.local }
 
 -- a function that keeps the laws of a member over n goods, with some total and some tops
 pub record KeepsLaws (n : ℕ) (f : Vector → ℤ) : Type 0 where
   pub total : ℤ
   pub top : ℕ → ℤ
-  pub convex : IsConvex n f total top
+  pub l_natural : IsLNatural n f total top
 
 -- by how much a function falls when the members of a set are raised by one
 abbrev pub fall_of : (Vector → ℤ) → Vector → Choices → ℤ

@@ -5,7 +5,7 @@ use Rattle.std.proofs.Common.{arith, subst, sym}
 use Rattle.std.proofs.lemmas.Int.{ints, clamps}
 use Rattle.mix_num.specs.Vectors.{Vector}
 use Rattle.mix_num.proofs.Products.{*ℤ-sum, sum-*ℤ, product_grows}
-use Rattle.mix_law.specs.Members.{IsConvex, excess}
+use Rattle.mix_law.specs.Members.{IsLNatural, excess}
 use Rattle.mix_law.specs.Totals.{total_nonnegative}
 
 -- the greater top of each good
@@ -21,12 +21,12 @@ excess_grows (suc n) s t x h =
     omega (arith, ints, clamps)
 
 -- and no smaller where a total multiplies it
-total_excess : (n : ℕ) {f : Vector → ℤ} {v : ℤ} {s : ℕ → ℤ} (t : ℕ → ℤ) (x : Vector) → ((i : ℕ) → s i ≤ℤ t i) → IsConvex n f v s → (v *ℤ excess n s x) ≤ℤ (v *ℤ excess n t x)
+total_excess : (n : ℕ) {f : Vector → ℤ} {v : ℤ} {s : ℕ → ℤ} (t : ℕ → ℤ) (x : Vector) → ((i : ℕ) → s i ≤ℤ t i) → IsLNatural n f v s → (v *ℤ excess n s x) ≤ℤ (v *ℤ excess n t x)
 total_excess zero t x h c = omega (arith, ints)
 total_excess (suc n) {v} {s} t x h c = product_grows v (excess (suc n) s x) (excess (suc n) t x) (total_nonnegative (omega arith) c) (excess_grows (suc n) s t x h)
 
 -- two functions over the same goods, with tops that are no smaller than those of either
-pub sum_with_tops : {n : ℕ} {f g : Vector → ℤ} {v w : ℤ} {s t : ℕ → ℤ} (u : ℕ → ℤ) → ((i : ℕ) → s i ≤ℤ u i) → ((i : ℕ) → t i ≤ℤ u i) → IsConvex n f v s → IsConvex n g w t → IsConvex n (λ x. f x +ℤ g x) (v +ℤ w) u
+pub sum_with_tops : {n : ℕ} {f g : Vector → ℤ} {v w : ℤ} {s t : ℕ → ℤ} (u : ℕ → ℤ) → ((i : ℕ) → s i ≤ℤ u i) → ((i : ℕ) → t i ≤ℤ u i) → IsLNatural n f v s → IsLNatural n g w t → IsLNatural n (λ x. f x +ℤ g x) (v +ℤ w) u
 sum_with_tops {n} {f} {g} {v} {w} {s} {t} u over also c d = record {
   reads = λ x y a. let p = c.reads x y a in let q = d.reads x y a in omega (arith, ints);
   shift = λ x k. let p = c.shift x k in let q = d.shift x k in let r = *ℤ-sum k v w in omega (arith, ints);
@@ -46,7 +46,7 @@ sum_with_tops {n} {f} {g} {v} {w} {s} {t} u over also c d = record {
       (omega (arith, ints, p.0, q.0), omega (arith, ints, p.1, q.1));
 }
 
-pub sum_convex : {n m : ℕ} {f g : Vector → ℤ} {v w : ℤ} {s t : ℕ → ℤ} → n ≡ m → IsConvex n f v s → IsConvex m g w t → IsConvex n (λ x. f x +ℤ g x) (v +ℤ w) (greater_top s t)
-sum_convex {n} {m} {f} {g} {v} {w} {s} {t} e c d =
-    let P : ℕ → Type 0 = λ k. IsConvex k g w t in
+pub sum_l_natural : {n m : ℕ} {f g : Vector → ℤ} {v w : ℤ} {s t : ℕ → ℤ} → n ≡ m → IsLNatural n f v s → IsLNatural m g w t → IsLNatural n (λ x. f x +ℤ g x) (v +ℤ w) (greater_top s t)
+sum_l_natural {n} {m} {f} {g} {v} {w} {s} {t} e c d =
+    let P : ℕ → Type 0 = λ k. IsLNatural k g w t in
     sum_with_tops (greater_top s t) (λ i. omega (arith, ints, clamps)) (λ i. omega (arith, ints, clamps)) c (subst P (sym e) d)

@@ -14,7 +14,7 @@ pub fn submodular<D: Convex>(member: &D)
 
 /// Two vectors may move one nearer to each other on the set where the first lies above the second by the most: the function gives together no more there.
 pub fn exchange<D: Convex>(member: &D)
-    ensures { (x y : Vector) (m : ℤ) (s : Choices) → IsWhereGreatest (D.size member.now) x y m s →
+    ensures { (x y : Vector) (m : ℤ) (s : Choices) → IsWhereGreatest (D.goods member.now) x y m s →
         (D.function member.now (minus x s) +ℤ D.function member.now (plus y s))
         ≤ℤ (D.function member.now x +ℤ D.function member.now y) }
 {}
@@ -23,9 +23,9 @@ pub fn exchange<D: Convex>(member: &D)
 pub fn local_to_global<D: Convex>(member: &D)
     ensures alone { (x : Vector) → IsLocallyLeast (D.function member.now) x → (y : Vector) →
         D.function member.now x ≤ℤ D.function member.now y }
-    ensures with_linear { (q : Vector) → sum_to (suc (D.size member.now)) q ≡ D.weight member.now →
-        (x : Vector) → IsLocallyLeast (tilted (D.size member.now) (D.function member.now) q) x → (y : Vector) →
-        tilted (D.size member.now) (D.function member.now) q x ≤ℤ tilted (D.size member.now) (D.function member.now) q y }
+    ensures with_linear { (q : Vector) → sum_to (suc (D.goods member.now)) q ≡ D.total member.now →
+        (x : Vector) → IsLocallyLeast (tilted (D.goods member.now) (D.function member.now) q) x → (y : Vector) →
+        tilted (D.goods member.now) (D.function member.now) q x ≤ℤ tilted (D.goods member.now) (D.function member.now) q y }
 {}
 
 /// The slope along a set never falls.

@@ -9,15 +9,15 @@ use mix_num::{Prices, Set};
 pub struct Pair<A: Convex, B: Convex> {
     pub first: A,
     pub second: B,
-    pub ghost same_goods: { A.size first ≡ B.size second },
-    pub ghost small: { (A.weight first +ℤ B.weight second) ≤ℤ pos 8000000 },
+    pub ghost same_goods: { A.goods first ≡ B.goods second },
+    pub ghost small: { (A.total first +ℤ B.total second) ≤ℤ pos 8000000 },
 }
 
 impl<A: Convex, B: Convex> Pair<A, B> {
     /// The pair of these two.
     pub fn new(first: A, second: B) -> Pair<A, B>
-        requires goods { A.size first ≡ B.size second }
-        requires small { (A.weight first +ℤ B.weight second) ≤ℤ pos 8000000 }
+        requires goods { A.goods first ≡ B.goods second }
+        requires small { (A.total first +ℤ B.total second) ≤ℤ pos 8000000 }
         ensures first { result.first ≡ first }
         ensures second { result.second ≡ second }
     {
@@ -29,19 +29,19 @@ impl<A: Convex, B: Convex> Pair<A, B> {
 impl<A: Convex, B: Convex> Convex for Pair<A, B> {
     ghost use Rattle.std.specs.Int.{int_min};
     ghost use Rattle.std.specs.Prelude.{◌+ℤ◌};
-    ghost use Rattle.mix_law.specs.Sums.{greater_top, sum_convex};
+    ghost use Rattle.mix_law.specs.Sums.{greater_top, sum_l_natural};
 
-    ghost size = { λ pair. A.size pair.first };
+    ghost goods = { λ pair. A.goods pair.first };
 
-    ghost weight = { λ pair. A.weight pair.first +ℤ B.weight pair.second };
+    ghost total = { λ pair. A.total pair.first +ℤ B.total pair.second };
 
-    ghost ceiling = { λ pair. greater_top (A.ceiling pair.first) (B.ceiling pair.second) };
+    ghost top = { λ pair. greater_top (A.top pair.first) (B.top pair.second) };
 
     ghost function = { λ pair x. A.function pair.first x +ℤ B.function pair.second x };
 
-    ghost span = { λ pair x set. int_min (A.span pair.first x set) (B.span pair.second x set) };
+    ghost reach = { λ pair x set. int_min (A.reach pair.first x set) (B.reach pair.second x set) };
 
-    ghost convex = { λ pair. sum_convex pair.same_goods (A.convex pair.first) (B.convex pair.second) };
+    ghost l_natural = { λ pair. sum_l_natural pair.same_goods (A.l_natural pair.first) (B.l_natural pair.second) };
 
     fn goods(&self) -> usize {
         self.first.goods()

@@ -1,10 +1,7 @@
 -- A fall of a set of goods by one is a fall of all choices and a rise of the others.
-use Rattle.std.proofs.Common.{◌≡◌, ◌∙◌, ℕ, zero, suc, ◌+◌, ◌-◌, ◌^◌, ◌%◌, ◌<◌, Bool, true, false, eqb, not, List, [], ◌∷◌, All, length, ℤ, pos, neg_ℤ, ◌+ℤ◌, ◌-ℤ◌, ◌*ℤ◌, ◌≤ℤ◌, arith, ap, refl}
+use Rattle.std.proofs.Common.{◌≡◌, ℕ, zero, suc, ◌<◌, Bool, true, false, not, List, [], ◌∷◌, All, length, ℤ, pos, neg_ℤ, ◌+ℤ◌, ◌-ℤ◌, ◌*ℤ◌, ◌≤ℤ◌, arith, ap, refl}
 use Rattle.std.proofs.lemmas.Int.{ints}
 use Rattle.std.proofs.lemmas.List.Elements.{All-head, All-tail}
-use Rattle.std.proofs.lemmas.Nat.Bits.{bit_at_xor, bit_at_ones, bit_at-lt}
-use Rattle.std.specs.Int.{bit_at}
-use Rattle.std.specs.Int.Bits.{bit_xor}
 use Rattle.mix_num.specs.Vectors.{Vector, Choices, bit, members, minus, plus, shifted, sum_to, dot_to, with_null}
 use Rattle.mix_law.specs.Members.{KeepsLocal, fall_of}
 use Rattle.mix_market.specs.Lyapunov.{lyapunov, sum_of}
@@ -12,18 +9,7 @@ use Rattle.mix_market.specs.Memberships.{sum_of_totals}
 use Rattle.mix_market.specs.Steepest.{slope_down, slope_of}
 use Rattle.mix_market.proofs.MarketLaws.{slope-is}
 
--- the choices outside a set, by their bits
-pub other_members : (n s k : ℕ) → k < suc n → members (bit_xor (2 ^ (n + 1) - 1) s) k ≡ not (members s k)
-other_members n s k h =
-    ap (λ (v : ℕ). eqb v 1) (bit_at_xor (2 ^ (n + 1) - 1) s k ∙ ap (λ (v : ℕ). (v + bit_at s k) % 2) (bit_at_ones (n + 1) k (omega arith)))
-    ∙ turned (bit_at s k) (bit_at-lt s k)
-  where
-    turned : (v : ℕ) → v < 2 → eqb ((1 + v) % 2) 1 ≡ not (eqb v 1)
-    turned zero h = refl
-    turned (suc zero) h = refl
-    turned (suc (suc v)) h = absurd (omega arith)
-
--- so it costs the rise of the others, and the total
+-- a fall of a set costs the rise of the others, and the total
 pub slope_down-is : {n : ℕ} {l : Vector → ℤ} {w : ℤ} → KeepsLocal n l w → (x : Vector) (s t : Choices) → ((k : ℕ) → k < suc n → t k ≡ not (s k)) → slope_down l x s ≡ slope_of l x t +ℤ w
 slope_down-is {n} {l} {w} c x s t h =
     let e = c.reads (minus x s) (shifted (plus x t) (neg_ℤ (pos 1))) (λ k i. back (x k) (s k) (t k) (h k (omega arith))) in

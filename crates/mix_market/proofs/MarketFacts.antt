@@ -14,11 +14,11 @@ use Rattle.mix_market.specs.Markets.{members_of, seller_of, goods_of, lyapunov_o
 use Rattle.mix_market.proofs.MarketLaws.{lyapunov_keeps, lyapunov_far}
 
 module _ {D : Type 0} {g : Ghosts D} (market : Market D g) where
-  pub market_keeps : KeepsLocal (goods_of market) (lyapunov_of market) (sum_of_totals g.weight (members_of market) -ℤ sum_to (suc (goods_of market)) (with_null (supply_of (seller_of market))))
-  market_keeps = lyapunov_keeps g.convex (members_of market) (supply_of (seller_of market)) market.membership.same_goods
+  pub market_keeps : KeepsLocal (goods_of market) (lyapunov_of market) (sum_of_totals g.total (members_of market) -ℤ sum_to (suc (goods_of market)) (with_null (supply_of (seller_of market))))
+  market_keeps = lyapunov_keeps g.l_natural (members_of market) (supply_of (seller_of market)) market.membership.same_goods
 
-  pub market_far : (x : Vector) (good : ℕ) → 1 ≤ good → good ≤ goods_of market → All (λ member. g.ceiling member good ≤ℤ (x good -ℤ x 0)) (members_of market) → lyapunov_of market (plus x (only good)) ≡ lyapunov_of market x +ℤ with_null (supply_of (seller_of market)) good
-  market_far = lyapunov_far g.convex (members_of market) (supply_of (seller_of market)) market.membership.same_goods
+  pub market_far : (x : Vector) (good : ℕ) → 1 ≤ good → good ≤ goods_of market → All (λ member. g.top member good ≤ℤ (x good -ℤ x 0)) (members_of market) → lyapunov_of market (plus x (only good)) ≡ lyapunov_of market x +ℤ with_null (supply_of (seller_of market)) good
+  market_far = lyapunov_far g.l_natural (members_of market) (supply_of (seller_of market)) market.membership.same_goods
 
   -- reserves lie within 1,000,000
   pub reserves_within : AreWithin 1000000 (goods_of market) (reserves_of market)

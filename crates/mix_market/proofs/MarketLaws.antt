@@ -8,7 +8,7 @@ use Rattle.std.proofs.lemmas.Bool.Decides.{eqb_tells}
 use Rattle.std.proofs.lemmas.List.Elements.{All-head, All-tail}
 use Rattle.mix_num.proofs.Products.{*ℤ-sum, *ℤ-difference}
 use Rattle.mix_num.specs.Vectors.{Vector, Choices, bit, plus, only, members as numbered, ray, dot_to, with_null, sum_to}
-use Rattle.mix_law.specs.Members.{IsConvex, KeepsLocal, keeps_local, fall_of}
+use Rattle.mix_law.specs.Members.{IsLNatural, KeepsLocal, keeps_local, fall_of}
 use Rattle.mix_num.proofs.Costs.{dot_plus}
 use Rattle.mix_law.proofs.Linear.{plus_linear, sum_keeps}
 use Rattle.mix_market.specs.Lyapunov.{sum_of, lyapunov}
@@ -67,26 +67,26 @@ lyapunov_linear functions supply x s m h =
     omega (arith, ints)
 
 -- the sum of the members' functions keeps what each of them does
-members_keep : {D : Type 0} {size : D → ℕ} {f : D → Vector → ℤ} {weight : D → ℤ} {top : D → ℕ → ℤ} (convex : (member : D) → IsConvex (size member) (f member) (weight member) (top member)) (n : ℕ) (members : List D) → All (λ member. size member ≡ n) members → KeepsLocal n (sum_of (map f members)) (sum_of_totals weight members)
-members_keep convex n [] h = record {
+members_keep : {D : Type 0} {goods : D → ℕ} {f : D → Vector → ℤ} {total : D → ℤ} {top : D → ℕ → ℤ} (natural : (member : D) → IsLNatural (goods member) (f member) (total member) (top member)) (n : ℕ) (members : List D) → All (λ member. goods member ≡ n) members → KeepsLocal n (sum_of (map f members)) (sum_of_totals total members)
+members_keep natural n [] h = record {
   reads = λ x y e. refl;
   shift = λ x k. omega (arith, ints);
   local = λ x i j a b e. omega (arith, ints);
 }
-members_keep {D} {size} {f} {weight} {top} convex n (member ∷ members) h =
-    let P : D → Type 0 = λ member. size member ≡ n in
-    let first = subst (λ (m : ℕ). KeepsLocal m (f member) (weight member)) (All-head P member members h) (keeps_local (convex member)) in
-    sum_keeps first (members_keep convex n members (All-tail P member members h))
+members_keep {D} {goods} {f} {total} {top} natural n (member ∷ members) h =
+    let P : D → Type 0 = λ member. goods member ≡ n in
+    let first = subst (λ (m : ℕ). KeepsLocal m (f member) (total member)) (All-head P member members h) (keeps_local (natural member)) in
+    sum_keeps first (members_keep natural n members (All-tail P member members h))
 
 -- a good that no member wants any more
-sum_far : {D : Type 0} {size : D → ℕ} {f : D → Vector → ℤ} {weight : D → ℤ} {top : D → ℕ → ℤ} (convex : (member : D) → IsConvex (size member) (f member) (weight member) (top member)) (n : ℕ) (members : List D) → All (λ member. size member ≡ n) members → (x : Vector) (good : ℕ) → 1 ≤ good → good ≤ n → All (λ member. top member good ≤ℤ (x good -ℤ x 0)) members → sum_of (map f members) (plus x (only good)) ≡ sum_of (map f members) x
-sum_far convex n [] h x good a b t = refl
-sum_far {D} {size} {f} {weight} {top} convex n (member ∷ members) h x good a b t =
-    let P : D → Type 0 = λ member. size member ≡ n in
+sum_far : {D : Type 0} {goods : D → ℕ} {f : D → Vector → ℤ} {total : D → ℤ} {top : D → ℕ → ℤ} (natural : (member : D) → IsLNatural (goods member) (f member) (total member) (top member)) (n : ℕ) (members : List D) → All (λ member. goods member ≡ n) members → (x : Vector) (good : ℕ) → 1 ≤ good → good ≤ n → All (λ member. top member good ≤ℤ (x good -ℤ x 0)) members → sum_of (map f members) (plus x (only good)) ≡ sum_of (map f members) x
+sum_far natural n [] h x good a b t = refl
+sum_far {D} {goods} {f} {total} {top} natural n (member ∷ members) h x good a b t =
+    let P : D → Type 0 = λ member. goods member ≡ n in
     let Q : D → Type 0 = λ member. top member good ≤ℤ (x good -ℤ x 0) in
     let own = All-head P member members h in
-    let first = (convex member).far x good a (omega arith) (All-head Q member members t) in
-    let others = sum_far convex n members (All-tail P member members h) x good a b (All-tail Q member members t) in
+    let first = (natural member).far x good a (omega arith) (All-head Q member members t) in
+    let others = sum_far natural n members (All-tail P member members h) x good a b (All-tail Q member members t) in
     ap₂ (λ (u v : ℤ). u +ℤ v) first others
 
 -- a linear function of one step of one choice is its coefficient
@@ -115,17 +115,17 @@ dot_only q (suc m) i h = at (eqb_tells m i) (λ l. dot_only q m i l)
         omega (arith, ints)
 
 -- the Lyapunov function keeps the local law, with what the members' totals exceed the supply by
-pub lyapunov_keeps : {D : Type 0} {size : D → ℕ} {f : D → Vector → ℤ} {weight : D → ℤ} {top : D → ℕ → ℤ} (convex : (member : D) → IsConvex (size member) (f member) (weight member) (top member)) (members : List D) (supply : List ℤ) → All (λ member. size member ≡ length supply) members → KeepsLocal (length supply) (lyapunov (map f members) supply) (sum_of_totals weight members -ℤ sum_to (suc (length supply)) (with_null supply))
+pub lyapunov_keeps : {D : Type 0} {goods : D → ℕ} {f : D → Vector → ℤ} {total : D → ℤ} {top : D → ℕ → ℤ} (natural : (member : D) → IsLNatural (goods member) (f member) (total member) (top member)) (members : List D) (supply : List ℤ) → All (λ member. goods member ≡ length supply) members → KeepsLocal (length supply) (lyapunov (map f members) supply) (sum_of_totals total members -ℤ sum_to (suc (length supply)) (with_null supply))
 unfolding lyapunov
-lyapunov_keeps convex members supply h = plus_linear (with_null supply) (members_keep convex (length supply) members h)
+lyapunov_keeps natural members supply h = plus_linear (with_null supply) (members_keep natural (length supply) members h)
 
 -- raising a good that no member wants any more costs its supply
-pub lyapunov_far : {D : Type 0} {size : D → ℕ} {f : D → Vector → ℤ} {weight : D → ℤ} {top : D → ℕ → ℤ} (convex : (member : D) → IsConvex (size member) (f member) (weight member) (top member)) (members : List D) (supply : List ℤ) → All (λ member. size member ≡ length supply) members → (x : Vector) (good : ℕ) → 1 ≤ good → good ≤ length supply → All (λ member. top member good ≤ℤ (x good -ℤ x 0)) members → lyapunov (map f members) supply (plus x (only good)) ≡ lyapunov (map f members) supply x +ℤ with_null supply good
-lyapunov_far {D} {size} {f} convex members supply h x good a b t =
+pub lyapunov_far : {D : Type 0} {goods : D → ℕ} {f : D → Vector → ℤ} {total : D → ℤ} {top : D → ℕ → ℤ} (natural : (member : D) → IsLNatural (goods member) (f member) (total member) (top member)) (members : List D) (supply : List ℤ) → All (λ member. goods member ≡ length supply) members → (x : Vector) (good : ℕ) → 1 ≤ good → good ≤ length supply → All (λ member. top member good ≤ℤ (x good -ℤ x 0)) members → lyapunov (map f members) supply (plus x (only good)) ≡ lyapunov (map f members) supply x +ℤ with_null supply good
+lyapunov_far {D} {goods} {f} natural members supply h x good a b t =
     let functions = map f members in
     let before = lyapunov-is functions supply x in
     let after = lyapunov-is functions supply (plus x (only good)) in
-    let same = sum_far convex (length supply) members h x good a b t in
+    let same = sum_far natural (length supply) members h x good a b t in
     let d = dot_plus (suc (length supply)) (with_null supply) x (λ k. bit (only good k)) in
     let own = dot_only (with_null supply) (suc (length supply)) good (omega arith) in
     omega (arith, ints)

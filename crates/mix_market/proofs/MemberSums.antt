@@ -5,7 +5,7 @@ use Rattle.std.proofs.lemmas.List.{get_or_default}
 use Rattle.mix_num.specs.Vectors.{Vector, Choices, plus}
 use Rattle.mix_law.specs.Members.{fall_of}
 use Rattle.mix_market.specs.Lyapunov.{sum_of}
-use Rattle.mix_market.specs.Memberships.{AreMembers, sum_of_totals}
+use Rattle.mix_market.specs.Memberships.{AreMembers}
 
 -- what holds of all holds of the one at a place
 pub one_of : {D : Type 0} (P : D → Type 0) (xs : List D) (i : ℕ) (y : D) → All P xs → i < length xs → y ≡ get_or xs i y → P y
@@ -27,9 +27,6 @@ fall_next f xs i y x s h e =
     let a = sum_next f xs i y x h e in
     let b = sum_next f xs i y (plus x s) h e in
     omega (arith, ints)
-
-pub weight_next : {D : Type 0} (weight : D → ℤ) (xs : List D) (i : ℕ) (y : D) → i < length xs → y ≡ get_or xs i y → sum_of_totals weight (drop i xs) ≡ weight y +ℤ sum_of_totals weight (drop (i + 1) xs)
-weight_next weight xs i y h e = ap (sum_of_totals weight) (rest_is xs i y h e)
 
 -- what holds of the members before a place and of the one there holds of all up to it
 pub one_more : {D : Type 0} (P : D → Type 0) (xs : List D) (i : ℕ) (y : D) → i < length xs → y ≡ get_or xs i y → ((k : ℕ) → k < i → (d : D) → P (get_or xs k d)) → P y → (k : ℕ) → k < i + 1 → (d : D) → P (get_or xs k d)

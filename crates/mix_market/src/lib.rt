@@ -3,7 +3,6 @@
 
 mod floor;
 mod market;
-mod others;
 mod sums;
 mod supply;
 

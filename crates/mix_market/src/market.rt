@@ -3,12 +3,11 @@ ghost use Rattle.std.specs.Prelude.{◌≡◌, ◌≤◌, length, All};
 ghost use Rattle.mix_seller.specs.Sellers.{supply_of};
 ghost use Rattle.mix_market.specs.Memberships.{AreMembers, AreTops, sum_of_totals};
 
-use crate::others::others;
 use crate::sums;
 use crate::supply::{cost, supplied};
 use arrayvec::ArrayVec;
 use mix_law::Convex;
-use mix_num::{Prices, Set, SetTable};
+use mix_num::{MOST_VALUE, Prices, Set, SetTable, outside};
 use mix_seller::Seller;
 
 /// At most 256 members and a seller, all over the same goods.
@@ -18,9 +17,9 @@ pub struct Market<D: Convex> {
     seller: Seller,
     total: i64,
     tops: Prices,
-    pub ghost membership: { AreMembers D.size D.weight (length (supply_of seller)) members.items },
-    pub ghost summed: { total ≡ sum_of_totals D.weight members.items },
-    pub ghost priced: { AreTops D.ceiling (length (supply_of seller)) members.items tops.items },
+    pub ghost membership: { AreMembers D.goods D.total (length (supply_of seller)) members.items },
+    pub ghost summed: { total ≡ sum_of_totals D.total members.items },
+    pub ghost priced: { AreTops D.top (length (supply_of seller)) members.items tops.items },
 }
 
 impl<D: Convex> Market<D> {
@@ -38,7 +37,7 @@ impl<D: Convex> Market<D> {
     /// The market of these members and this seller.
     pub fn new(members: Vec<D>, seller: Seller) -> Market<D>
         requires few { length members.items ≤ 256 }
-        requires same_goods { All (λ member. D.size member ≡ length (supply_of seller)) members.items }
+        requires same_goods { All (λ member. D.goods member ≡ length (supply_of seller)) members.items }
         ensures members { members_of result ≡ members.items }
         ensures seller { seller_of result ≡ seller }
     {
@@ -78,7 +77,7 @@ impl<D: Convex> Market<D> {
 
     /// The sum of the members' totals, from 0 to 2,048,000,000.
     pub fn total(&self) -> i64
-        ensures value { result ≡ sum_of_totals D.weight (members_of self.now) }
+        ensures value { result ≡ sum_of_totals D.total (members_of self.now) }
         ensures range { (pos 0 ≤ℤ result) × (result ≤ℤ pos 2048000000) }
     {
         self.total
@@ -88,9 +87,9 @@ impl<D: Convex> Market<D> {
     /// or -1,000,000 where there is no member.
     pub fn top(&self, good: usize) -> i64
         requires { (1 ≤ good) × (good ≤ goods_of self.now) }
-        ensures value { result ≡ greatest_of (λ member. D.ceiling member good) (members_of self.now) }
-        ensures range { Lies 1000000 result }
-        ensures above { All (λ member. D.ceiling member good ≤ℤ result) (members_of self.now) }
+        ensures value { result ≡ greatest_of (λ member. D.top member good) (members_of self.now) }
+        ensures range { Lies MOST_VALUE result }
+        ensures above { All (λ member. D.top member good ≤ℤ result) (members_of self.now) }
     {
         self.tops[good - 1]
     }
@@ -141,7 +140,7 @@ impl<D: Convex> Market<D> {
         // A set falls by one where all choices fall by one, which gains the total, and the others rise again.
         for half in 0..Set::goods(n).bits() / 2 + 1 {
             let set = Set::from_bits(2 * half);
-            let gain = total - falls.at(others(set, n));
+            let gain = total - falls.at(outside(set, n));
             out.add(set, gain - supplied(self.seller.supply(), set));
         }
     }
@@ -152,7 +151,7 @@ impl<D: Convex> Market<D> {
         requires prices { HaveRoom (goods_of self.now) prices.now.items }
         requires goods { IsSetOfGoods (goods_of self.now) set }
         requires some { 0 < set }
-        ensures value { result ≡ least_of (λ member. D.span member (with_null prices.now.items) (members set)) (members_of self.now) }
+        ensures value { result ≡ least_of (λ member. D.reach member (with_null prices.now.items) (members set)) (members_of self.now) }
         ensures range { (pos 1 ≤ℤ result) × (result ≤ℤ pos 8000000) }
         ensures linear { (m : ℕ) → pos m ≤ℤ result → lyapunov_of self.now (ray (with_null prices.now.items) m (members set)) ≡ lyapunov_of self.now (with_null prices.now.items) +ℤ (pos m *ℤ slope_of (lyapunov_of self.now) (with_null prices.now.items) (members set)) }
     {

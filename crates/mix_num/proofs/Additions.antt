@@ -77,14 +77,6 @@ pub total-is : (xs : List ℤ) → total xs ≡ sum_to (length xs) (entries xs)
 unfolding total
 total-is xs = refl
 
-pub dot_of-none : (ys : List ℤ) → dot_of [] ys ≡ pos 0
-unfolding dot_of
-dot_of-none ys = refl
-
-pub dot_of-cons : (x y : ℤ) (xs ys : List ℤ) → dot_of (x ∷ xs) (y ∷ ys) ≡ (x *ℤ y) +ℤ dot_of xs ys
-unfolding dot_of
-dot_of-cons x y xs ys = dot_to-front (length xs) (entries (x ∷ xs)) (entries (y ∷ ys))
-
 -- the sum over all goods is the total
 pub sum_in-goods : (n : ℕ) (xs : List ℤ) → length xs ≡ n → sum_in (pos 0 ∷ xs) (2 ^ (n + 1) - 2) ≡ total xs
 unfolding sum_in total

@@ -2,7 +2,6 @@ pub mod Products
 pub mod Quotients
 pub mod Equalities
 pub mod Masks
-pub mod UnitMoves
 pub mod Additions
 pub mod Costs
 pub mod Orders

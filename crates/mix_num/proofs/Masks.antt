@@ -1,8 +1,8 @@
 -- Sets of choices as numbers: what the members of a number are, and that every set of the choices below m is that of one number below 2 ^ m.
-use Rattle.std.proofs.Common.{◌≡◌, ℕ, zero, suc, ◌+◌, ◌-◌, ◌*◌, ◌^◌, ◌≤◌, ◌<◌, ◌⊎◌, inl, inr, Bool, true, false, cond, eqb, refl, arith, sym, ap, ◌∙◌, eq-or-lt_of_le, pow-suc, min, max, bit_and, bit_or}
+use Rattle.std.proofs.Common.{◌≡◌, ℕ, zero, suc, ◌+◌, ◌-◌, ◌*◌, ◌^◌, ◌≤◌, ◌<◌, ◌⊎◌, inl, inr, Bool, true, false, cond, eqb, not, refl, arith, sym, ap, ◌∙◌, eq-or-lt_of_le, pow-suc, min, max, bit_and, bit_or, w16}
 use Rattle.std.proofs.lemmas.Bool.Decides.{nat_tests}
-use Rattle.std.proofs.lemmas.Nat.Bits.{bit_at_above, bit_at_cat_low, bit_at_cat_high, bit_at_mask_inside, bit_at_mask_below, bit_at_mask_above, bit_at_ones, bit_at_ones_above, bit_at_and, bit_at_or, bit_at-lt, same_from_bits_below}
-use Rattle.std.specs.Int.{bit_at}
+use Rattle.std.proofs.lemmas.Nat.Bits.{bit_at_above, bit_at_cat_low, bit_at_cat_high, bit_at_mask_inside, bit_at_ones, bit_at_and, bit_at_not, bit_at_or, bit_at-lt, same_from_bits_below}
+use Rattle.std.specs.Int.{bit_at, bit_not}
 use Rattle.mix_num.specs.Vectors.{Choices, members, both, either}
 
 -- a bit is known by whether it is 1
@@ -21,18 +21,9 @@ members_above a m k h l = ap (λ z. eqb z 1) (bit_at_above a m k h l)
 pub goods_members : (n k : ℕ) → 1 ≤ k → k ≤ n → members (2 ^ (n + 1) - 2) k ≡ true
 goods_members n k h l = ap (λ z. eqb z 1) (bit_at_mask_inside 1 (n + 1) k h (omega arith))
 
-pub goods_null : (n : ℕ) → members (2 ^ (n + 1) - 2) 0 ≡ false
-goods_null n = ap (λ z. eqb z 1) (bit_at_mask_below 1 (n + 1) 0 (omega arith))
-
-pub goods_above : (n k : ℕ) → n < k → members (2 ^ (n + 1) - 2) k ≡ false
-goods_above n k h = ap (λ z. eqb z 1) (bit_at_mask_above 1 (n + 1) k (omega arith))
-
 -- the choices 0 to n
 pub whole_members : (n k : ℕ) → k ≤ n → members (2 ^ (n + 1) - 1) k ≡ true
 whole_members n k h = ap (λ z. eqb z 1) (bit_at_ones (n + 1) k (omega arith))
-
-pub whole_above : (n k : ℕ) → n < k → members (2 ^ (n + 1) - 1) k ≡ false
-whole_above n k h = ap (λ z. eqb z 1) (bit_at_ones_above (n + 1) k (omega arith))
 
 -- the members of both sets, and of either
 both_bits : (a b : ℕ) → a < 2 → b < 2 → eqb (min a b) 1 ≡ cond (eqb a 1) (eqb b 1) false
@@ -46,6 +37,24 @@ and_members a b k = ap (λ z. eqb z 1) (bit_at_and a b k) ∙ both_bits _ _ (bit
 
 pub or_members : (a b k : ℕ) → members (bit_or a b) k ≡ either (members a) (members b) k
 or_members a b k = ap (λ z. eqb z 1) (bit_at_or a b k) ∙ either_bits _ _ (bit_at-lt a k) (bit_at-lt b k)
+
+-- the choices 0 to n outside a set, by their bits
+pub outside_members : (n s : ℕ) → n ≤ 8 → s < 2 ^ 16 → (k : ℕ) → k < suc n → members (bit_and (bit_not w16 s) (2 ^ (n + 1) - 1)) k ≡ not (members s k)
+outside_members n s few small k h =
+    and_members (bit_not w16 s) (2 ^ (n + 1) - 1) k
+    ∙ ap (λ (b : Bool). cond (members (bit_not w16 s) k) b false) (whole_members n k (omega arith))
+    ∙ flat (members (bit_not w16 s) k)
+    ∙ ap (λ (v : ℕ). eqb v 1) (bit_at_not w16 s k small (omega arith))
+    ∙ turned (bit_at s k) (bit_at-lt s k)
+  where
+    flat : (b : Bool) → cond b true false ≡ b
+    flat true = refl
+    flat false = refl
+
+    turned : (v : ℕ) → v < 2 → eqb (1 - v) 1 ≡ not (eqb v 1)
+    turned zero h = refl
+    turned (suc zero) h = refl
+    turned (suc (suc v)) h = absurd (omega arith)
 
 -- the number of the set of those choices below m that pass a test
 pub mask_of : ℕ → Choices → ℕ

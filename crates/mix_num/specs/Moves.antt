@@ -2,6 +2,7 @@
 use Rattle.std.specs.Prelude.{◌≡◌, ℕ, ◌≤◌, ◌<◌, ◌+◌, ◌^◌, false, cond, ℤ, pos, ◌+ℤ◌, ◌-ℤ◌}
 use Rattle.mix_num.specs.Vectors.{Vector, Choices, members}
 use Rattle.mix_num.specs.Ranges.{Lies}
+use Rattle.mix_num.specs.declared.limits.TheConstants.{PRICE_BOUND}
 
 -- each member's entry raised by an amount
 abbrev pub raised : Vector → Choices → ℤ → Vector
@@ -17,4 +18,4 @@ IsSetOfGoods n set = (set < 2 ^ (n + 1)) × (members set 0 ≡ false)
 
 -- no entry of the choices 0 to n lies further from 0 than any price may
 abbrev pub AreEntries : ℕ → Vector → Type 0
-AreEntries n x = (k : ℕ) → k ≤ n → Lies 4000000 (x k)
+AreEntries n x = (k : ℕ) → k ≤ n → Lies PRICE_BOUND (x k)

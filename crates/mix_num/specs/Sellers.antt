@@ -2,10 +2,11 @@
 use Rattle.std.specs.Prelude.{◌≡◌, ℕ, suc, ◌≤◌, List, ℤ, pos, ◌-ℤ◌, ◌*ℤ◌, ◌≤ℤ◌, length, All}
 use Rattle.std.specs.Int.{int_max}
 use Rattle.mix_num.specs.Vectors.{Vector, sum_to, with_null}
+use Rattle.mix_num.specs.declared.limits.TheConstants.{MOST_VALUE}
 
--- from 0 to 1,000,000
+-- from 0 to the most that a value may be, in money, or the units of a good
 abbrev pub IsAmount : ℤ → Type 0
-IsAmount x = (pos 0 ≤ℤ x) × (x ≤ℤ pos 1000000)
+IsAmount x = (pos 0 ≤ℤ x) × (x ≤ℤ pos MOST_VALUE)
 
 -- an amount for each of n goods
 abbrev pub AreAmounts : ℕ → List ℤ → Type 0

@@ -4,7 +4,7 @@ ghost use Rattle.mix_num.specs.Vectors.{Agree, members, with_null};
 ghost use Rattle.mix_num.specs.Ranges.{ArePrices, Lies};
 ghost use Rattle.mix_num.specs.Moves.{AreEntries, IsSetOfGoods, lowered, raised};
 
-use crate::{Prices, Set};
+use crate::{PRICE_BOUND, Prices, Set};
 use arrayvec::ArrayVec;
 
 /// The prices with `by` added to the price of each good of the set.
@@ -50,7 +50,7 @@ fn moved(prices: &Prices, set: Set, by: i64) -> Prices
 
 /// The price, moved where its good is in the set.
 fn step(price: i64, within: bool, by: i64) -> i64
-    requires price { Lies 4000000 price }
+    requires price { Lies PRICE_BOUND price }
     requires amount { Lies 8000000 by }
     ensures { result ≡ price +ℤ cond within by (pos 0) }
 {

@@ -1,5 +1,5 @@
 // A set of choices: the null choice is 0, and the goods are numbered from 1.
-ghost use Rattle.std.specs.Prelude.{◌≡◌, ◌+◌, ◌-◌, ◌^◌, ◌<◌, ◌≤◌};
+ghost use Rattle.std.specs.Prelude.{◌≡◌, ◌+◌, ◌-◌, ◌^◌, ◌<◌, ◌≤◌, ℕ, suc, not};
 ghost use Rattle.mix_num.specs.Vectors.{members};
 
 use std::marker::Model;
@@ -66,6 +66,15 @@ impl Set {
             bits: (1 << (n + 1)) - 1,
         }
     }
+}
+
+/// The choices 0 to n outside a set.
+pub fn outside(set: Set, n: usize) -> Set
+    requires { n ≤ 8 }
+    ensures members { (k : ℕ) → k < suc n → members result k ≡ not (members set k) }
+    ensures within { result < 2 ^ suc n }
+{
+    Set::from_bits(!set.bits() & Set::whole(n).bits())
 }
 
 #[cfg(test)]

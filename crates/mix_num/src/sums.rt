@@ -3,7 +3,7 @@ ghost use Rattle.std.specs.Prelude.{◌≡◌, ℕ, ◌+◌, ◌∷◌, ◌*ℤ�
 ghost use Rattle.mix_num.specs.Ranges.{Lies};
 ghost use Rattle.mix_num.specs.Sums.{sum_in, dot_of};
 
-use crate::{Bundle, Prices, Set};
+use crate::{Bundle, PRICE_BOUND, Prices, Set};
 
 /// The sum of the entries of the goods in the set, and of `null` where the null choice is in it.
 ///
@@ -28,7 +28,7 @@ pub fn sum_over(bundle: &Bundle, null: i64, set: Set) -> i64
 /// 8,000,000.
 pub fn dot(prices: &Prices, bundle: &Bundle) -> i64
     requires size { length prices.now.items ≡ length bundle.now.items }
-    requires prices { All (Lies 4000000) prices.now.items }
+    requires prices { All (Lies PRICE_BOUND) prices.now.items }
     requires bundle { All (Lies 8000000) bundle.now.items }
     ensures value { result ≡ dot_of prices.now.items bundle.now.items }
     ensures range { Lies 256000000000000 result }
@@ -49,7 +49,7 @@ pub fn counted(counts: bool, amount: i64) -> i64
 
 /// The price of an amount.
 fn cost(price: i64, amount: i64) -> i64
-    requires price { Lies 4000000 price }
+    requires price { Lies PRICE_BOUND price }
     requires amount { Lies 8000000 amount }
     ensures value { result ≡ price *ℤ amount }
     ensures range { Lies 32000000000000 result }

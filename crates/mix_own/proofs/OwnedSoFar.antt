@@ -1,17 +1,16 @@
 -- What is owned so far: a number more, a row more, and what holds of it.
-use Rattle.std.proofs.Common.{◌≡◌, ◌∙◌, sym, ap, refl, subst, ◌<◌, ◌≤◌, ◌+◌, ◌-◌, ◌||◌, ℕ, zero, suc, ℤ, pos, ◌+ℤ◌, ◌≤ℤ◌, ◌<ℤ◌, ◌⊎◌, true, false, List, [], ◌∷◌, ◌++◌, length, drop, get_or, set, replicate, arith, inl, inr, Ok, Err, int_le, int_lt, nat_eq, ◌≢◌, true≢false}
+use Rattle.std.proofs.Common.{◌≡◌, ◌∙◌, sym, ap, refl, subst, ◌<◌, ◌+◌, ◌-◌, ◌||◌, ℕ, zero, suc, ℤ, pos, ◌+ℤ◌, ◌≤ℤ◌, ◌<ℤ◌, ◌⊎◌, true, false, List, [], ◌∷◌, ◌++◌, length, drop, get_or, set, replicate, arith, inl, inr, Ok, int_le, int_lt, nat_eq, ◌≢◌, true≢false}
 use Rattle.std.specs.Ordering.{int_eq}
 use Rattle.std.proofs.lemmas.Bool.{cases_Bool}
 use Rattle.std.proofs.lemmas.Bool.Decides.{nat_tests}
 use Rattle.std.proofs.lemmas.Int.{ints}
-use Rattle.std.proofs.lemmas.List.{drop_all, drop_more, get_or_append_left, get_or-append_right, length-append, length-set, length-replicate, get_or-set_same, get_or-set_other}
-use Rattle.std.proofs.lemmas.List.Elements.{All-nil, All-push, All-set, All-replicate}
+use Rattle.std.proofs.lemmas.List.{drop_more, get_or_append_left, get_or-append_right, length-append, length-set, length-replicate, get_or-set_same, get_or-set_other}
+use Rattle.std.proofs.lemmas.List.Elements.{All-push, All-set, All-replicate}
 use Rattle.mix_num.specs.Sellers.{AreAmounts, IsAmount}
 use Rattle.mix_num.specs.Shares.{sum_at}
 use Rattle.mix_text.specs.Auctions.{AuctionText, IsAuction}
 use Rattle.mix_text.specs.Reading.{field_at, holds, number_in}
 use Rattle.mix_text.specs.Spelling.{spelled_number}
-use Rattle.mix_text.specs.declared.faults.Code.{Code}
 use Rattle.mix_text.specs.declared.faults.Code.TheVariants as code
 use Rattle.mix_text.proofs.Sound.{holds_ok, then_ok}
 use Rattle.mix_text.proofs.Spellings.{between_range}
@@ -47,24 +46,6 @@ pub numbers_more : (a : AuctionText) (owned : List (List ℤ)) (before : List �
 numbers_more a owned before fields i x size l e =
     let next : i + 2 + 1 ≡ i + 1 + 2 = omega arith in
     rw (drop_more fields (i + 2) [] l, size, e, next) refl
-
--- one that is wrong
-pub numbers_wrong : (a : AuctionText) (owned : List (List ℤ)) (before : List ℤ) (fields : List (List ℕ)) (i : ℕ) (c : Code) → length before ≡ i → i + 2 < length fields
-    → own_number_of (get_or a.reserve i (pos 0)) (room_of a owned i) (field_at fields (i + 2)) ≡ Err c
-    → own_numbers_after a owned before (drop (i + 2) fields) ≡ Err c
-numbers_wrong a owned before fields i c size l e = rw (drop_more fields (i + 2) [] l, size, e) refl
-
--- all have been read
-pub numbers_last : (a : AuctionText) (owned : List (List ℤ)) (before : List ℤ) (fields : List (List ℕ)) (i : ℕ) → length fields ≤ i + 2 → own_numbers_after a owned before (drop (i + 2) fields) ≡ Ok before
-numbers_last a owned before fields i l = rw (drop_all (i + 2) fields l) refl
-
--- no goods yet
-pub fits_none : (a : AuctionText) (owned : List (List ℤ)) → FitsRoom a owned 0 []
-fits_none a owned = record {
-  amounts = (refl, All-nil IsAmount);
-  free = λ i l. absurd (omega (arith, l));
-  most = λ i l. absurd (omega (arith, l));
-}
 
 -- the last of some numbers, or one before it
 last_or_before : (P : ℕ → ℤ → Type 0) (xs : List ℤ) (x : ℤ) (m : ℕ) → length xs ≡ m → ((i : ℕ) → i < m → P i (get_or xs i (pos 0))) → P m x → (i : ℕ) → i < m + 1 → P i (get_or (xs ++ x ∷ []) i (pos 0))

@@ -40,9 +40,7 @@ impl Owned {
         ensures ok { OnOk result (self.new ≡ self.old ++ bundle.items ∷ []) }
         ensures err { OnErr result (self.new ≡ self.old) }
     {
-        let Ok(()) = self.bundles.push(bundle) else {
-            return Err(Memory);
-        };
+        self.bundles.push(bundle)?;
         Ok(())
     }
 

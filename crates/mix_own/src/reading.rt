@@ -4,6 +4,7 @@ ghost use Rattle.mix_num.specs.Sellers.{AreAmounts};
 ghost use Rattle.mix_text.specs.AuctionTexts.{auction_text};
 ghost use Rattle.mix_text.specs.Reading.{nothing_after, numbered_as};
 ghost use Rattle.mix_own.specs.Owned.{AreOwned};
+ghost use Rattle.mix_own.specs.declared.reading.RangeError.TheVariants.{Fault as WrongRow, Memory as WantOfMemory};
 ghost use Rattle.mix_own.specs.Readings.{IsFromRange, ceiling_in, ceiling_of, close_in, close_of, range_after, with_ceiling};
 
 use crate::own_reading::read_own;
@@ -22,6 +23,22 @@ pub enum RangeError {
     Memory,
 }
 
+impl From<Fault> for RangeError {
+    ghost from_gives = { λ fault e. e ≡ WrongRow fault };
+
+    fn from(fault: Fault) -> RangeError {
+        RangeError::Fault(fault)
+    }
+}
+
+impl From<Memory> for RangeError {
+    ghost from_gives = { λ _ e. e ≡ WantOfMemory };
+
+    fn from(_: Memory) -> RangeError {
+        RangeError::Memory
+    }
+}
+
 // The fault of the row with this number.
 fn fault(number: u64, code: Code) -> Fault
     ensures { result ≡ record { at = number; code = code } }
@@ -34,10 +51,7 @@ fn nothing_owned(alloc: Global, auction: &Auction) -> Result<Owned, RangeError>
     ensures owned { IfOk result (λ owned. owned ≡ replicate (length auction.now.bidders) (replicate (length auction.now.goods) (pos 0))) }
     ensures wrong { IfErr result (λ e. e ≡ RangeError.Memory) }
 {
-    match Owned::nothing(alloc, auction.count(), auction.goods.len()) {
-        Ok(owned) => Ok(owned),
-        Err(Memory) => Err(RangeError::Memory),
-    }
+    Ok(Owned::nothing(alloc, auction.count(), auction.goods.len())?)
 }
 
 // No mark for any of so many bidders.
@@ -168,8 +182,6 @@ pub fn read_range(
 {
     let told = read_owned(alloc, auction, rest)?;
     let left = &rest.rows()[told.after..];
-    match read_ceiling(left, rest.next_number(), auction.goods.len()) {
-        Ok(ceiling) => Ok((told.owned, ceiling)),
-        Err(fault) => Err(RangeError::Fault(fault)),
-    }
+    let ceiling = read_ceiling(left, rest.next_number(), auction.goods.len())?;
+    Ok((told.owned, ceiling))
 }

@@ -45,9 +45,7 @@ impl TradeList {
         ensures ok { OnOk result (self.new ≡ self.old ++ trade ∷ []) }
         ensures err { OnErr result (self.new ≡ self.old) }
     {
-        let Ok(()) = self.trades.push(trade) else {
-            return Err(Memory);
-        };
+        self.trades.push(trade)?;
         Ok(())
     }
 

@@ -9,8 +9,8 @@ use Rattle.mix_law.proofs.Exchanges.{AtMost, bound, exchange_at, set_at, set_at_
 use Rattle.mix_market.specs.Lyapunov.{IsBelow, IsLeastPoint}
 use Rattle.mix_range.specs.HighPoints.{MayRise, IsLargestRise, IsAsLow, IsGreatestAsLow}
 use Rattle.mix_market.proofs.MarketLaws.{slope-none}
-use Rattle.mix_market.proofs.Gaps.{nowhere_reached}
-use Rattle.mix_market.proofs.Rises.{joined_at, nearer_at, not_null, not_raised, null_kept, null_kept_down, stays_over}
+use Rattle.mix_step.proofs.Gaps.{nowhere_reached}
+use Rattle.mix_step.proofs.Rises.{joined_at, nearer_at, not_null, not_raised, null_kept, null_kept_down, stays_over}
 use Rattle.mix_range.proofs.LargestRises.{empty_may_rise}
 
 higher : (a b : ℤ) (s : Bool) → a ≤ℤ b → a ≤ℤ (b +ℤ bit s)
@@ -54,10 +54,6 @@ module _ {n : ℕ} {l : Vector → ℤ} {w : ℤ} (c : KeepsLocal n l w) (floor 
   -- where no entry of the least point is above the ceiling's, it is one of them
   pub low_as_low : low 0 ≡ pos 0 → IsBelow n low ceiling → IsAsLow n l floor ceiling low low
   low_as_low z h = record { null = z; above = least.above; below = h; same = refl }
-
-  -- and it lies at or below each of them
-  pub low_below : (q : Vector) → IsAsLow n l floor ceiling low q → IsBelow n low q
-  low_below q a = least.lowest q a.null a.above a.same
 
   module _ (p : Vector) (own : IsAsLow n l floor ceiling low p) (s : Choices) (f : IsLargestRise n l ceiling p s) where
     -- one rise leads to such a point again

@@ -8,7 +8,7 @@ use Rattle.mix_num.proofs.Masks.{same_members}
 use Rattle.mix_law.specs.Members.{KeepsLocal}
 use Rattle.mix_law.proofs.Exchanges.{submodular_sets}
 use Rattle.mix_market.specs.Steepest.{slope_of}
-use Rattle.mix_market.proofs.LargestSets.{IsFamily, IsLast, alike, both_false, both_left, either_cases, either_false, largest_of, steepest_of}
+use Rattle.mix_step.proofs.LargestSets.{IsFamily, IsLast, alike, both_false, both_left, either_cases, either_false, largest_of, steepest_of}
 use Rattle.mix_range.specs.HighPoints.{MayRise, IsLargestRise}
 
 module _ {n : ℕ} {l : Vector → ℤ} {w : ℤ} (c : KeepsLocal n l w) (ceiling x : Vector) where

@@ -11,7 +11,7 @@ ghost use Rattle.mix_range.specs.HighPoints.{IsGreatestAsLow};
 use crate::largest::largest_rise;
 use mix_law::Convex;
 use mix_market::Market;
-use mix_num::{Prices, Set, raise};
+use mix_num::{MOST_VALUE, Prices, Set, copy, raise};
 use mix_step::Steps;
 use std::sync::ledger::Ledger;
 
@@ -28,11 +28,11 @@ pub fn greatest<D: Convex, L: Ledger>(
 ) -> Option<Prices>
     requires low { length low.now.items ≡ goods_of market.now }
     requires least { IsLeastPoint (goods_of market.now) (lyapunov_of market.now) (with_null (reserve_of (seller_of market.now))) (with_null low.now.items) }
-    requires ceiling { AreWithin 1000000 (goods_of market.now) ceiling.now.items }
+    requires ceiling { AreWithin MOST_VALUE (goods_of market.now) ceiling.now.items }
     ensures none { IsNone result ↔ IsAboveSomewhere (goods_of market.now) (with_null low.now.items) (with_null ceiling.now.items) }
     ensures unspent { IsNone result → steps.new ≡ steps.old }
     ensures greatest { IfSome result (λ high. IsGreatestAsLow (goods_of market.now) (lyapunov_of market.now) (with_null (reserve_of (seller_of market.now))) (with_null ceiling.now.items) (with_null low.now.items) (with_null high.items)) }
-    ensures range { IfSome result (λ high. AreWithin 1000000 (goods_of market.now) high.items) }
+    ensures range { IfSome result (λ high. AreWithin MOST_VALUE (goods_of market.now) high.items) }
     ensures cost { IfSome result (λ high. pos steps.new ≤ℤ ((pos steps.old +ℤ greatest_gap (goods_of market.now) (with_null high.items) (with_null low.now.items)) +ℤ pos 1)) }
 {
     if is_below(low, ceiling) {
@@ -51,10 +51,10 @@ fn rise<D: Convex, L: Ledger>(
 ) -> Prices
     requires low { length low.now.items ≡ goods_of market.now }
     requires least { IsLeastPoint (goods_of market.now) (lyapunov_of market.now) (with_null (reserve_of (seller_of market.now))) (with_null low.now.items) }
-    requires ceiling { AreWithin 1000000 (goods_of market.now) ceiling.now.items }
+    requires ceiling { AreWithin MOST_VALUE (goods_of market.now) ceiling.now.items }
     requires below { IsBelow (goods_of market.now) (with_null low.now.items) (with_null ceiling.now.items) }
     ensures greatest { IsGreatestAsLow (goods_of market.now) (lyapunov_of market.now) (with_null (reserve_of (seller_of market.now))) (with_null ceiling.now.items) (with_null low.now.items) (with_null result.items) }
-    ensures range { AreWithin 1000000 (goods_of market.now) result.items }
+    ensures range { AreWithin MOST_VALUE (goods_of market.now) result.items }
     ensures cost { pos steps.new ≤ℤ ((pos steps.old +ℤ greatest_gap (goods_of market.now) (with_null result.items) (with_null low.now.items)) +ℤ pos 1) }
 {
     let mut prices = copy(low);
@@ -72,8 +72,8 @@ fn rise<D: Convex, L: Ledger>(
 
 /// As many of these steps up as no price of the set passes the ceiling's in.
 fn steps_below(ceiling: &Prices, prices: &Prices, set: Set, steps: i64) -> i64
-    requires ceiling { AreWithin 1000000 (length prices.now.items) ceiling.now.items }
-    requires prices { AreWithin 1000000 (length prices.now.items) prices.now.items }
+    requires ceiling { AreWithin MOST_VALUE (length prices.now.items) ceiling.now.items }
+    requires prices { AreWithin MOST_VALUE (length prices.now.items) prices.now.items }
     requires some { pos 1 ≤ℤ steps }
     requires may { (k : ℕ) → k < length prices.now.items → members set (suc k) ≡ true → with_null prices.now.items (suc k) <ℤ with_null ceiling.now.items (suc k) }
     ensures some { (pos 1 ≤ℤ result) × (result ≤ℤ steps) }
@@ -88,8 +88,8 @@ fn steps_below(ceiling: &Prices, prices: &Prices, set: Set, steps: i64) -> i64
 
 /// As many of these steps up as a price of the set doesn't pass its top in.
 fn fewer(steps: i64, within: bool, price: i64, top: i64) -> i64
-    requires price { Lies 1000000 price }
-    requires top { Lies 1000000 top }
+    requires price { Lies MOST_VALUE price }
+    requires top { Lies MOST_VALUE top }
     requires some { (pos 1 ≤ℤ steps) × (within ≡ true → price <ℤ top) }
     ensures some { (pos 1 ≤ℤ result) × (result ≤ℤ steps) }
     ensures below { within ≡ true → (price +ℤ result) ≤ℤ top }
@@ -112,11 +112,4 @@ fn is_below(prices: &Prices, ceiling: &Prices) -> bool
         }
     }
     true
-}
-
-/// The same prices.
-fn copy(prices: &Prices) -> Prices
-    ensures { result.items ≡ prices.now.items }
-{
-    Prices::try_from(prices.as_slice()).unwrap()
 }

@@ -8,7 +8,7 @@ use Rattle.mix_num.specs.Sellers.{IsForSale, unit_gain, seller_gain}
 use Rattle.mix_num.proofs.Products.{*ℤ-sum, *ℤ-difference}
 use Rattle.mix_law.specs.Members.{fall_of}
 use Rattle.mix_seller.specs.Laws.{amount_of}
-use Rattle.mix_seller.specs.Reaches.{good_span, least_to, seller_span}
+use Rattle.mix_seller.specs.Reaches.{good_reach, least_to, seller_reach}
 
 -- a number that falls by m where it falls by one at a step, times an amount
 falls_by : (t u v w : ℤ) (m : ℕ) → v ≡ u -ℤ pos m → w ≡ u -ℤ pos 1 → t *ℤ v ≡ (t *ℤ u) -ℤ (pos m *ℤ (t *ℤ (u -ℤ w)))
@@ -41,7 +41,7 @@ nothing t u v w m e =
     omega (arith, ints)
 
 -- one good: its amount t, its reserve r and its price a
-good_falls : (t r a o : ℤ) (null b : Bool) (m : ℕ) → pos 0 ≤ℤ t → o ≡ pos 0 → null ≡ false → pos m ≤ℤ good_span b t r a
+good_falls : (t r a o : ℤ) (null b : Bool) (m : ℕ) → pos 0 ≤ℤ t → o ≡ pos 0 → null ≡ false → pos m ≤ℤ good_reach b t r a
     → t *ℤ int_max (pos 0 -ℤ (o +ℤ cond null (pos m) (pos 0))) (r -ℤ (a +ℤ cond b (pos m) (pos 0)))
     ≡ (t *ℤ int_max (pos 0 -ℤ o) (r -ℤ a)) -ℤ (pos m *ℤ (t *ℤ (int_max (pos 0 -ℤ o) (r -ℤ a) -ℤ int_max (pos 0 -ℤ (o +ℤ bit null)) (r -ℤ (a +ℤ bit b)))))
 good_falls t r a o true b m p z n few = absurd (no n)
@@ -54,7 +54,7 @@ good_falls t r a o false true m p z n few = at (int_lt (pos 0) t) refl (int_lt a
     at : (c : Bool) → int_lt (pos 0) t ≡ c → (d : Bool) → int_lt a r ≡ d → t *ℤ int_max (pos 0 -ℤ (o +ℤ pos 0)) (r -ℤ (a +ℤ pos m)) ≡ (t *ℤ int_max (pos 0 -ℤ o) (r -ℤ a)) -ℤ (pos m *ℤ (t *ℤ (int_max (pos 0 -ℤ o) (r -ℤ a) -ℤ int_max (pos 0 -ℤ (o +ℤ pos 0)) (r -ℤ (a +ℤ pos 1)))))
     at true e true f =
         let less : a <ℤ r = grind (arith, ints) in
-        let span : good_span true t r a ≡ r -ℤ a = ap₂ (λ (c d : Bool). cond c (cond d (r -ℤ a) (pos 8000000)) (pos 8000000)) e f in
+        let span : good_reach true t r a ≡ r -ℤ a = ap₂ (λ (c d : Bool). cond c (cond d (r -ℤ a) (pos 8000000)) (pos 8000000)) e f in
         let small : pos m ≤ℤ (r -ℤ a) = omega (arith, ints) in
         falls_by t _ _ _ m (omega (arith, ints, clamps)) (omega (arith, ints, clamps))
     at true e false f =
@@ -87,12 +87,12 @@ least_below (suc m) f v h k l = at (eq-or-lt_of_le (omega arith)) (λ q. least_b
     at (inl e) rest = let same = ap f e in omega (arith, ints, clamps)
     at (inr q) rest = rest q
 
-pub seller_falls : (supply reserve : List ℤ) (x : Vector) (s : Choices) (m : ℕ) → IsForSale supply reserve → x 0 ≡ pos 0 → s 0 ≡ false → pos m ≤ℤ seller_span supply reserve x s
+pub seller_falls : (supply reserve : List ℤ) (x : Vector) (s : Choices) (m : ℕ) → IsForSale supply reserve → x 0 ≡ pos 0 → s 0 ≡ false → pos m ≤ℤ seller_reach supply reserve x s
     → seller_gain supply reserve (ray x m s) ≡ seller_gain supply reserve x -ℤ (pos m *ℤ fall_of (seller_gain supply reserve) x s)
 seller_falls supply reserve x s m sale null goods few =
     sum_falls (length supply) m (λ k. with_null supply (suc k)) (λ k. unit_gain reserve x (suc k)) (λ k. unit_gain reserve (ray x m s) (suc k)) (λ k. unit_gain reserve (plus x s) (suc k))
     (λ k l. good_falls (with_null supply (suc k)) (with_null reserve (suc k)) (x (suc k)) (x 0) (s 0) (s (suc k)) m (amount_of (length supply) supply sale.supplies (suc k) (omega arith) (omega arith)).0 null goods
-    (least_below (length supply) (λ j. good_span (s (suc j)) (with_null supply (suc j)) (with_null reserve (suc j)) (x (suc j))) (pos m) few k l))
+    (least_below (length supply) (λ j. good_reach (s (suc j)) (with_null supply (suc j)) (with_null reserve (suc j)) (x (suc j))) (pos m) few k l))
 
 -- one good more
 pub least_next : (m : ℕ) (f : ℕ → ℤ) (least own r : ℤ) → least ≡ least_to m f → own ≡ f m → r ≡ int_min least own → r ≡ least_to (m + 1) f

@@ -9,7 +9,7 @@ use Rattle.std.proofs.lemmas.List.Elements.{All-get_or}
 use Rattle.mix_num.specs.Vectors.{bit, plus, only, shifted, sum_to, with_null}
 use Rattle.mix_num.specs.Sellers.{IsAmount, AreAmounts, IsForSale, unit_gain, units, seller_gain}
 use Rattle.mix_num.proofs.Products.{*ℤ-sum, *ℤ-difference, product_grows, product_nonnegative}
-use Rattle.mix_law.specs.Members.{IsConvex, excess}
+use Rattle.mix_law.specs.Members.{IsLNatural, excess}
 use Rattle.mix_law.specs.Sums.{sum_with_tops}
 use Rattle.mix_law.proofs.Ranges.{excess_covers, excess_nonnegative}
 
@@ -49,7 +49,7 @@ same_choice : (i j : ℕ) → eqb i j ≡ true → j ≡ i
 same_choice i j e = grind (arith, nat_tests)
 
 -- one good of n, with its supply
-one_good : (n i : ℕ) (reserve : List ℤ) (t : ℤ) → 1 ≤ i → i ≤ n → pos 0 ≤ℤ t → IsConvex n (λ x. t *ℤ unit_gain reserve x i) t (with_null reserve)
+one_good : (n i : ℕ) (reserve : List ℤ) (t : ℤ) → 1 ≤ i → i ≤ n → pos 0 ≤ℤ t → IsLNatural n (λ x. t *ℤ unit_gain reserve x i) t (with_null reserve)
 one_good n i reserve t l h p = record {
   reads = λ x y a.
       let null = a 0 (omega arith) in
@@ -89,7 +89,7 @@ one_good n i reserve t l h p = record {
     zero_more a b = omega (arith, ints, clamps)
 
 -- no good
-none : (n : ℕ) (top : ℕ → ℤ) → IsConvex n (λ x. pos 0) (pos 0) top
+none : (n : ℕ) (top : ℕ → ℤ) → IsLNatural n (λ x. pos 0) (pos 0) top
 none n top = record {
   reads = λ x y a. refl;
   shift = λ x k. let e = *ℤ_comm k (pos 0) in let z = zero-*ℤ k in omega (arith, ints);
@@ -100,7 +100,7 @@ none n top = record {
 
 -- the first m goods of n
 first_goods : (n m : ℕ) (supply reserve : List ℤ) → m ≤ n → ((i : ℕ) → 1 ≤ i → i ≤ n → pos 0 ≤ℤ with_null supply i) →
-    IsConvex n (λ x. sum_to m (λ k. with_null supply (suc k) *ℤ unit_gain reserve x (suc k))) (sum_to m (λ k. with_null supply (suc k))) (with_null reserve)
+    IsLNatural n (λ x. sum_to m (λ k. with_null supply (suc k) *ℤ unit_gain reserve x (suc k))) (sum_to m (λ k. with_null supply (suc k))) (with_null reserve)
 first_goods n zero supply reserve h p = none n (with_null reserve)
 first_goods n (suc m) supply reserve h p =
     sum_with_tops (with_null reserve) (λ i. omega (arith, ints)) (λ i. omega (arith, ints))
@@ -112,5 +112,5 @@ pub amount_of : (n : ℕ) (xs : List ℤ) → AreAmounts n xs → (i : ℕ) → 
 amount_of n xs a zero l h = absurd (omega arith)
 amount_of n xs a (suc i) l h = All-get_or IsAmount _ _ _ (omega (arith, a.0)) a.1
 
-pub seller_convex : (supply reserve : List ℤ) → IsForSale supply reserve → IsConvex (length supply) (seller_gain supply reserve) (units supply) (with_null reserve)
-seller_convex supply reserve s = first_goods (length supply) (length supply) supply reserve (omega arith) (λ i l h. (amount_of (length supply) supply s.supplies i l h).0)
+pub seller_l_natural : (supply reserve : List ℤ) → IsForSale supply reserve → IsLNatural (length supply) (seller_gain supply reserve) (units supply) (with_null reserve)
+seller_l_natural supply reserve s = first_goods (length supply) (length supply) supply reserve (omega arith) (λ i l h. (amount_of (length supply) supply s.supplies i l h).0)

@@ -1,8 +1,8 @@
 //! The seller, who counts as a member of the market: each unit is worth its reserve.
 #![tactic(auto)]
 
-mod copies;
 mod seller;
+pub mod theorems;
 mod units;
 
 pub use seller::Seller;

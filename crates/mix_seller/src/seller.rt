@@ -1,10 +1,9 @@
 // The seller's supply and reserves.
 ghost use Rattle.mix_num.specs.Sellers.{IsForSale};
 
-use crate::copies::copy;
 use crate::units::{gains, left, loses, span, supply_where, weigh};
 use mix_law::Convex;
-use mix_num::{Bundle, Prices, Set};
+use mix_num::{Bundle, MOST_UNITS, Prices, Set, copy};
 
 /// The supply and the reserve of each good, both from 0 to 1,000,000, of 1 to 8 goods.
 #[derive(Drop)]
@@ -53,7 +52,7 @@ impl Seller {
     ghost use Rattle.mix_num.specs.Ranges.{HaveRoom};
     ghost use Rattle.mix_num.specs.Sellers.{unit_gain};
     ghost use Rattle.mix_num.specs.Vectors.{members, minus, plus, with_null};
-    ghost use Rattle.mix_seller.specs.Reaches.{good_span};
+    ghost use Rattle.mix_seller.specs.Reaches.{good_reach};
 
     /// What all units of the good at place `k`, counted from 0, leave.
     fn left_at(&self, prices: &Prices, k: usize) -> i64
@@ -71,7 +70,7 @@ impl Seller {
         requires place { k < length (supply_of self.now) }
         ensures value { result ≡ with_null (supply_of self.now) (suc k)
             *ℤ (unit_gain (reserve_of self.now) (with_null prices.now.items) (suc k) -ℤ unit_gain (reserve_of self.now) (plus (with_null prices.now.items) (members set)) (suc k)) }
-        ensures range { (pos 0 ≤ℤ result) × (result ≤ℤ pos 1000000) }
+        ensures range { (pos 0 ≤ℤ result) × (result ≤ℤ pos MOST_UNITS) }
     {
         let test = loses(self.reserve[k], prices[k], set.has(0), set.has(k + 1));
         supply_where(test, self.supply[k])
@@ -83,7 +82,7 @@ impl Seller {
         requires place { k < length (supply_of self.now) }
         ensures value { result ≡ with_null (supply_of self.now) (suc k)
             *ℤ (unit_gain (reserve_of self.now) (minus (with_null prices.now.items) (members set)) (suc k) -ℤ unit_gain (reserve_of self.now) (with_null prices.now.items) (suc k)) }
-        ensures range { (pos 0 ≤ℤ result) × (result ≤ℤ pos 1000000) }
+        ensures range { (pos 0 ≤ℤ result) × (result ≤ℤ pos MOST_UNITS) }
     {
         let test = gains(self.reserve[k], prices[k], set.has(0), set.has(k + 1));
         supply_where(test, self.supply[k])
@@ -93,7 +92,7 @@ impl Seller {
     fn span_at(&self, prices: &Prices, set: Set, k: usize) -> i64
         requires prices { HaveRoom (length (supply_of self.now)) prices.now.items }
         requires place { k < length (supply_of self.now) }
-        ensures value { result ≡ good_span (members set (suc k)) (with_null (supply_of self.now) (suc k)) (with_null (reserve_of self.now) (suc k)) (with_null prices.now.items (suc k)) }
+        ensures value { result ≡ good_reach (members set (suc k)) (with_null (supply_of self.now) (suc k)) (with_null (reserve_of self.now) (suc k)) (with_null prices.now.items (suc k)) }
         ensures range { (pos 1 ≤ℤ result) × (result ≤ℤ pos 8000000) }
     {
         span(set.has(k + 1), self.supply[k], self.reserve[k], prices[k])
@@ -106,20 +105,20 @@ impl Convex for Seller {
     ghost use Rattle.std.specs.Prelude.{length};
     ghost use Rattle.mix_num.specs.Sellers.{units, seller_gain};
     ghost use Rattle.mix_num.specs.Vectors.{with_null};
-    ghost use Rattle.mix_seller.specs.Laws.{seller_convex};
-    ghost use Rattle.mix_seller.specs.Reaches.{seller_span};
+    ghost use Rattle.mix_seller.specs.Laws.{seller_l_natural};
+    ghost use Rattle.mix_seller.specs.Reaches.{seller_reach};
 
-    ghost size = { λ seller. length seller.supply.items };
+    ghost goods = { λ seller. length seller.supply.items };
 
-    ghost weight = { λ seller. units seller.supply.items };
+    ghost total = { λ seller. units seller.supply.items };
 
-    ghost ceiling = { λ seller. with_null seller.reserve.items };
+    ghost top = { λ seller. with_null seller.reserve.items };
 
     ghost function = { λ seller. seller_gain seller.supply.items seller.reserve.items };
 
-    ghost span = { λ seller. seller_span seller.supply.items seller.reserve.items };
+    ghost reach = { λ seller. seller_reach seller.supply.items seller.reserve.items };
 
-    ghost convex = { λ seller. seller_convex seller.supply.items seller.reserve.items seller.for_sale };
+    ghost l_natural = { λ seller. seller_l_natural seller.supply.items seller.reserve.items seller.for_sale };
 
     fn goods(&self) -> usize {
         self.supply.len()

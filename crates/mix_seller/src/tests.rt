@@ -36,14 +36,14 @@ fn amounts(weak: i64, strong: i64) -> Bundle
 
 /// The number of goods, the total and both tops.
 fn size<D: Convex>(member: &D) -> (usize, i64, i64, i64)
-    requires { D.size member.now ≡ 2 }
+    requires { D.goods member.now ≡ 2 }
 {
     (member.goods(), member.total(), member.top(1), member.top(2))
 }
 
 /// The value, the fall and the gain at the prices and the set.
 fn asked<D: Convex>(member: &D, weak: i64, strong: i64, set: Set) -> (i64, i64, i64)
-    requires size { D.size member.now ≡ 2 }
+    requires size { D.goods member.now ≡ 2 }
     requires weak { Lies 3999999 weak }
     requires strong { Lies 3999999 strong }
 {
@@ -57,7 +57,7 @@ fn asked<D: Convex>(member: &D, weak: i64, strong: i64, set: Set) -> (i64, i64, 
 
 /// How many steps a set of goods makes the function fall equally.
 fn reach<D: Convex>(member: &D, weak: i64, strong: i64, set: Set) -> i64
-    requires size { D.size member.now ≡ 2 }
+    requires size { D.goods member.now ≡ 2 }
     requires goods { members set 0 ≡ false }
     requires weak { Lies 3999999 weak }
     requires strong { Lies 3999999 strong }
@@ -67,7 +67,7 @@ fn reach<D: Convex>(member: &D, weak: i64, strong: i64, set: Set) -> i64
 
 /// The total, and the fall and the gain of a set, both read from the tables of all sets.
 fn swept<D: Convex>(member: &D, weak: i64, strong: i64, set: Set) -> (i64, i64, i64)
-    requires size { D.size member.now ≡ 2 }
+    requires size { D.goods member.now ≡ 2 }
     requires weak { Lies 3999999 weak }
     requires strong { Lies 3999999 strong }
 {

@@ -4,8 +4,9 @@ ghost use Rattle.std.specs.Int.{int_max};
 ghost use Rattle.mix_num.specs.Ranges.{Lies};
 ghost use Rattle.mix_num.specs.Sellers.{IsAmount};
 ghost use Rattle.mix_num.specs.Vectors.{bit};
-ghost use Rattle.mix_seller.specs.Reaches.{good_span};
+ghost use Rattle.mix_seller.specs.Reaches.{good_reach};
 
+use mix_num::MOST_UNITS;
 use std::cmp::Ordering;
 
 /// What a unit of a good leaves: the reserve less the price, or nothing where that is more.
@@ -32,7 +33,7 @@ pub fn weigh(supply: i64, unit: i64) -> i64
 pub fn supply_where(test: bool, supply: i64) -> i64
     requires { IsAmount supply }
     ensures value { result ≡ supply *ℤ bit test }
-    ensures range { (pos 0 ≤ℤ result) × (result ≤ℤ pos 1000000) }
+    ensures range { (pos 0 ≤ℤ result) × (result ≤ℤ pos MOST_UNITS) }
 {
     if test { supply } else { 0 }
 }
@@ -67,7 +68,7 @@ pub fn gains(reserve: i64, price: i64, null: bool, good: bool) -> bool
 pub fn span(within: bool, supply: i64, reserve: i64, price: i64) -> i64
     requires reserve { IsAmount reserve }
     requires price { Lies 3999999 price }
-    ensures value { result ≡ good_span within supply reserve price }
+    ensures value { result ≡ good_reach within supply reserve price }
     ensures range { (pos 1 ≤ℤ result) × (result ≤ℤ pos 8000000) }
 {
     if within && supply > 0 && reserve > price {

@@ -1,18 +1,22 @@
 -- What solves the market of an auction solves the auction.
-use Rattle.std.proofs.Common.{◌≡◌, ℕ, ◌*◌, List, ℤ, All, length, map, sym, ap₂, ◌∙◌, subst, arith}
+use Rattle.std.proofs.Common.{◌≡◌, ℕ, ◌<◌, ◌*◌, List, ℤ, All, length, map, sym, ap₂, ◌∙◌, subst, arith}
 use Rattle.mix_num.specs.Orders.{IsOrder, place_at}
 use Rattle.mix_num.specs.Sellers.{AreAmounts, IsForSale}
 use Rattle.mix_num.specs.Vectors.{Vector, with_null}
 use Rattle.mix_law.specs.declared.convex.Convex.{Ghosts}
+use Rattle.mix_law.specs.Scales.{KeepsScales}
 use Rattle.mix_cap.specs.MemberLaws.{function_of}
+use Rattle.mix_cap.proofs.UnderCaps.{under_keeps_scales}
 use Rattle.mix_cap.specs.declared.member.Member.{Member}
 use Rattle.mix_text.specs.Auctions.{AuctionText, IsAuction}
+use Rattle.mix_text.specs.Bidders.{list_at}
+use Rattle.mix_text.specs.Caps.{cap_at}
 use Rattle.mix_text.proofs.TieOrders.{is_order}
 use Rattle.mix_seller.specs.Sellers.{for_sale, reserve_of, supply_of}
 use Rattle.mix_market.specs.Lyapunov.{IsLeastPoint, lyapunov}
 use Rattle.mix_market.specs.Markets.{members_of, seller_of}
 use Rattle.mix_market.specs.declared.market.Market.{Market}
-use Rattle.mix_clearing.specs.Certificates.{IsFirstTightPair}
+use Rattle.mix_law.specs.Certificates.{IsFirstTightPair}
 use Rattle.mix_clearing.specs.Scales.{AreLeastOfFractions, KeepScales}
 use Rattle.mix_clearing.specs.Utilities.{KeepLaws}
 use Rattle.mix_clearing.specs.Values.{AreWorthMost}
@@ -23,7 +27,8 @@ use Rattle.mix_answer.specs.Shapes.{AreSets, HasAnswerShape, IsShare}
 use Rattle.mix_answer.specs.Truths.{HaveFirstTights, IsTrueAnswer, bundles_of, pair_of}
 use Rattle.mix_answer.specs.Utilities.{scaled_utilities_of, utilities_of}
 use Rattle.mix_answer.specs.declared.outcome.Answer.{Answer}
-use Rattle.mix_answer.proofs.Entrants.{length-utilities, utilities_keep_scales, utilities_once}
+use Rattle.mix_answer.proofs.Entrants.{length-scaled, length-utilities, scaled-there, utilities_once}
+use Rattle.mix_answer.proofs.TrueRefusals.{list_at_ok}
 use Rattle.mix_serve.specs.Admissions.{IsMarketOf}
 use Rattle.mix_serve.specs.Answers.{IsAnswerFor}
 use Rattle.mix_serve.proofs.AnswerShapes.{pairs_shape, price_amounts, return_amounts, shares_count, shares_shape}
@@ -90,7 +95,10 @@ module _ (a : AuctionText) (answer : Answer) (is : IsAuction a) (convex : AreCon
   -- and no prices with fractions clear below
   fractions : AreLeastOfFractions (scaled_utilities_of a) a.supply a.reserve answer.prices.items
   fractions =
-      let keep = subst (λ (n : ℕ). KeepScales n (scaled_utilities_of a)) (sym goods) (utilities_keep_scales a is convex) in
+      let keep = subst (λ (n : ℕ). KeepScales n (scaled_utilities_of a)) (sym goods) (λ k l.
+      let there : k < length a.bidders = let m = length-scaled a in omega (arith, m, l) in
+      subst (λ (f : ℕ → Vector → ℤ). KeepsScales (length a.goods) f) (sym (scaled-there a k there))
+      (under_keeps_scales (length a.goods) (cap_at a.caps k) (list_at a.bidders k).bids (list_at_ok a k is there).bids (is.caps.positive k) (convex k there))) in
       least_of_fractions (scaled_utilities_of a) a.supply keep a.reserve answer.prices.items sound.own.range.0
       (subst (λ (fs : List (Vector → ℤ)). IsLeastPoint (length a.supply) (lyapunov fs a.supply) (with_null a.reserve) (with_null answer.prices.items)) (sym (utilities_once a)) sound.own.least)
 

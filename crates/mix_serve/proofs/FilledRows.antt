@@ -7,8 +7,8 @@ use Rattle.mix_num.specs.Orders.{IsOrder, in_order, place_at}
 use Rattle.mix_num.proofs.Orders.{get-in_order, place_below}
 use Rattle.mix_num.specs.Sellers.{seller_gain}
 use Rattle.mix_law.specs.Demands.{IsTableOf, table_of}
-use Rattle.mix_clearing.specs.Certificates.{tables_at}
-use Rattle.mix_clearing.specs.Clearings.{bidder_utility}
+use Rattle.mix_law.specs.Certificates.{tables_at}
+use Rattle.mix_law.specs.Clearings.{bidder_utility}
 use Rattle.mix_clearing.proofs.TableLists.{is-table_of}
 
 -- the rows before k, and the one at k that was set just now

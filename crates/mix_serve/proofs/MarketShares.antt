@@ -19,8 +19,8 @@ use Rattle.mix_market.specs.Markets.{goods_of, lyapunov_of, members_of, seller_o
 use Rattle.mix_market.specs.declared.market.Market.{Market}
 use Rattle.mix_ties.specs.Shares.{LiesInSum}
 use Rattle.mix_ties.specs.Tights.{AreFirstTights}
-use Rattle.mix_clearing.specs.Certificates.{tables_at}
-use Rattle.mix_clearing.specs.Clearings.{IsSolution}
+use Rattle.mix_law.specs.Certificates.{tables_at}
+use Rattle.mix_law.specs.Clearings.{IsSolution}
 use Rattle.mix_clearing.proofs.MarketUtilities.{market_lawful}
 use Rattle.mix_clearing.proofs.Solutions.{first_tights-where_shared, solution-where_shared, supply-within_tables}
 use Rattle.mix_serve.specs.Answers.{AreFirstPairs}

@@ -5,7 +5,7 @@ use Rattle.std.proofs.lemmas.List.{length-map, map-append}
 use Rattle.std.proofs.lemmas.List.FromFn.{map-range_with_len_more}
 use Rattle.mix_num.specs.Orders.{places}
 use Rattle.mix_bids.specs.Facets.{IsNegativeFacet}
-use Rattle.mix_cap.specs.MemberLaws.{size_of}
+use Rattle.mix_cap.specs.MemberLaws.{goods_of}
 use Rattle.mix_cap.specs.declared.member.Member.{Member}
 use Rattle.mix_cap.specs.declared.member.Member.TheVariants.{Capped, List as Listed}
 use Rattle.mix_text.specs.Auctions.{AuctionText, IsAuction}
@@ -38,7 +38,7 @@ refused_first a k (Refused r) h convex at = record {
 refused_first a k Memory h convex at = tt
 
 -- a member is over the goods of the bidder that it stands for
-member_goods : (member : Member) → size_of member ≡ (entrant_of member).list.goods
+member_goods : (member : Member) → goods_of member ≡ (entrant_of member).list.goods
 member_goods (Listed valid) = refl
 member_goods (Capped capped) = refl
 
@@ -47,7 +47,7 @@ pub members_count : (a : AuctionText) (members : List Member) → map entrant_of
 members_count a members same = sym (length-map members entrant_of) ∙ ap (λ (es : List Entrant). length es) same ∙ length-entrants a
 
 -- all are over the goods of the auction
-pub same_goods : (a : AuctionText) (members : List Member) → IsAuction a → map entrant_of members ≡ entrants_of a → (k : ℕ) (none : Member) → k < length members → size_of (get_or members k none) ≡ length a.goods
+pub same_goods : (a : AuctionText) (members : List Member) → IsAuction a → map entrant_of members ≡ entrants_of a → (k : ℕ) (none : Member) → k < length members → goods_of (get_or members k none) ≡ length a.goods
 same_goods a members sound same k none h =
     let count = members_count a members same in
     let there : k < length a.bidders = omega (arith, count, h) in

@@ -6,8 +6,8 @@ use Rattle.mix_num.specs.Orders.{place_at}
 use Rattle.mix_num.specs.Sums.{dot_of}
 use Rattle.mix_num.specs.declared.pair.Tight.{Tight}
 use Rattle.mix_market.specs.Lyapunov.{IsLeastPoint, lyapunov}
-use Rattle.mix_clearing.specs.Certificates.{IsFirstTightPair}
-use Rattle.mix_clearing.specs.Clearings.{IsSolution}
+use Rattle.mix_law.specs.Certificates.{IsFirstTightPair}
+use Rattle.mix_law.specs.Clearings.{IsSolution}
 use Rattle.mix_answer.specs.Truths.{bundles_of}
 use Rattle.mix_answer.specs.declared.outcome.Answer.{Answer}
 

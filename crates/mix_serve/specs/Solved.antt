@@ -1,4 +1,6 @@
 -- What comes of solving an auction.
+use Rattle.mix_text.specs.Auctions.{AuctionText}
+use Rattle.mix_answer.specs.Truths.{HaveFirstTights, IsTrueOutcome}
 use Rattle.mix_answer.specs.declared.outcome.Answer.{Answer}
 use Rattle.mix_answer.specs.declared.outcome.Outcome.{Outcome}
 use Rattle.mix_answer.specs.declared.outcome.Outcome.TheVariants.{Cleared, Refused}
@@ -16,3 +18,7 @@ IsCleared (Cleared answer) = Unit {0}
 abbrev pub OfAnswer : (Answer → Type 0) → Outcome → Type 0
 OfAnswer P (Refused r) = Unit {0}
 OfAnswer P (Cleared answer) = P answer
+
+-- the outcome is true, and its pairs, where it has any, are the first tight ones
+abbrev pub IsSolved : AuctionText → Outcome → Type 0
+IsSolved a outcome = IsTrueOutcome a outcome × OfAnswer (HaveFirstTights a) outcome

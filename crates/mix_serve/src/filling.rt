@@ -5,7 +5,7 @@ ghost use Rattle.mix_seller.specs.Sellers.{reserve_of, supply_of};
 ghost use Rattle.mix_market.specs.Markets.{goods_of, members_of, seller_of};
 ghost use Rattle.mix_text.specs.Orders.{IsTieOrder};
 ghost use Rattle.mix_ties.specs.Shares.{AreProper};
-ghost use Rattle.mix_clearing.specs.Certificates.{tables_at};
+ghost use Rattle.mix_law.specs.Certificates.{tables_at};
 
 use mix_law::Convex;
 use mix_market::Market;

@@ -1,9 +1,9 @@
 // What was shared in tie order, put back at the places of the members.
-ghost use Rattle.std.specs.Prelude.{◌≡◌, ℕ, ◌+◌, ◌*◌, ◌/◌, ◌%◌, ◌<◌, ◌≤◌, length, map, slice_index_or, IfOk};
+ghost use Rattle.std.specs.Prelude.{◌≡◌, ℕ, ◌+◌, ◌*◌, ◌/◌, ◌%◌, ◌<◌, ◌≤◌, [], All, length, map, slice_index_or, IfOk};
 ghost use Rattle.mix_num.specs.Orders.{in_order, place_at};
 ghost use Rattle.mix_text.specs.Orders.{IsTieOrder};
 
-use mix_num::{Bundle, Memory, Set, Tight};
+use mix_num::{Bundle, Memory, Set, Tight, copy};
 use mix_text::Order;
 use std::alloc::Global;
 
@@ -58,36 +58,26 @@ fn place_of(order: &Order, goods: usize, place: usize) -> usize
     order.place(place / goods) * goods + place % goods
 }
 
-/// The same bundle.
-fn copy(bundle: &Bundle) -> Bundle
-    ensures { result.items ≡ bundle.now.items }
-{
-    Bundle::try_from(bundle.as_slice()).unwrap()
-}
-
 /// So many bundles of no goods, to be written over.
 pub fn empty_bundles(alloc: Global, count: usize) -> Result<Vec<Bundle>, Memory>
-    ensures { IfOk result (λ bundles. length bundles.items ≡ count) }
+    ensures count { IfOk result (λ bundles. length bundles.items ≡ count) }
+    ensures empty { IfOk result (λ bundles. All (λ b. b.items ≡ []) bundles.items) }
 {
     let mut bundles = Vec::new(alloc);
     for _ in 0..count {
-        let Ok(()) = bundles.push(Bundle::new()) else {
-            return Err(Memory);
-        };
+        bundles.push(Bundle::new())?;
     }
     Ok(bundles)
 }
 
 /// So many pairs of empty sets, to be written over.
 pub fn empty_pairs(alloc: Global, count: usize) -> Result<Vec<Tight>, Memory>
-    ensures { IfOk result (λ pairs. length pairs.items ≡ count) }
+    ensures count { IfOk result (λ pairs. length pairs.items ≡ count) }
+    ensures empty { IfOk result (λ pairs. All (λ pair. (pair.upper ≡ 0) × (pair.lower ≡ 0)) pairs.items) }
 {
     let none = Tight {
         upper: Set::from_bits(0),
         lower: Set::from_bits(0),
     };
-    match vec![in alloc; none; count] {
-        Ok(pairs) => Ok(pairs),
-        Err(_) => Err(Memory),
-    }
+    Ok(vec![in alloc; none; count]?)
 }

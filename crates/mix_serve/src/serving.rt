@@ -21,7 +21,7 @@ use crate::sharing::share_out;
 use mix_answer::{Answer, Tights};
 use mix_cap::Member;
 use mix_market::Market;
-use mix_num::{Bundle, Memory, Prices, Tight};
+use mix_num::{Memory, Prices, Tight, copy};
 use mix_text::{Auction, Order};
 use std::alloc::Global;
 
@@ -73,13 +73,6 @@ fn answer_at(
         returns: sharing.returns,
         tights,
     })
-}
-
-/// The same prices.
-fn copy(prices: &Prices) -> Prices
-    ensures { result.items ≡ prices.now.items }
-{
-    Bundle::try_from(prices.as_slice()).unwrap()
 }
 
 /// The pairs as the list that an answer has.

@@ -6,7 +6,7 @@ ghost use Rattle.mix_seller.specs.Sellers.{reserve_of, supply_of};
 ghost use Rattle.mix_market.specs.Lyapunov.{IsLeastPoint};
 ghost use Rattle.mix_market.specs.Markets.{goods_of, lyapunov_of, members_of, seller_of};
 ghost use Rattle.mix_text.specs.Orders.{IsTieOrder};
-ghost use Rattle.mix_clearing.specs.Clearings.{IsSolution};
+ghost use Rattle.mix_law.specs.Clearings.{IsSolution};
 ghost use Rattle.mix_serve.specs.Answers.{AreFirstPairs};
 
 use crate::filling::tables_of;

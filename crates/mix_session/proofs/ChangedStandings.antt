@@ -12,7 +12,7 @@ use Rattle.mix_text.proofs.ChangedAuctions.{found_below}
 use Rattle.mix_answer.specs.Utilities.{Entrant, entrant_at}
 use Rattle.mix_session.specs.declared.standing.Standing.{Standing}
 use Rattle.mix_session.specs.declared.standing.Standing.TheVariants.{Open}
-use Rattle.mix_session.specs.Standings.{AreStandings, StandsFor, standing_at}
+use Rattle.mix_session.specs.Standings.{AreStandings, HasStanding, standing_at}
 
 abbrev Bidder : Type 0
 Bidder = List ℕ × Book
@@ -21,10 +21,10 @@ abbrev nobody : Bidder
 nobody = ([], record { goods = 0; bids = [] })
 
 -- one who has the same list and the same cap as another
-same_stands : (a b : AuctionText) (i j : ℕ) (s t : Standing) → list_at b.bidders j ≡ list_at a.bidders i → cap_at b.caps j ≡ cap_at a.caps i → t ≡ s → StandsFor (entrant_at a i) s → StandsFor (entrant_at b j) t
+same_stands : (a b : AuctionText) (i j : ℕ) (s t : Standing) → list_at b.bidders j ≡ list_at a.bidders i → cap_at b.caps j ≡ cap_at a.caps i → t ≡ s → HasStanding (entrant_at a i) s → HasStanding (entrant_at b j) t
 same_stands a b i j s t list cap same stands =
     let entrant : entrant_at b j ≡ entrant_at a i = ap₂ (λ (l : Book) (c : Option ℤ). record { list = l; cap = c }) list cap in
-    subst (λ (e : Entrant). StandsFor e t) (sym entrant) (subst (StandsFor (entrant_at a i)) (sym same) stands)
+    subst (λ (e : Entrant). HasStanding e t) (sym entrant) (subst (HasStanding (entrant_at a i)) (sym same) stands)
 
 -- a bidder leaves
 one_leaves : (a : AuctionText) (standings : List Standing) (k : ℕ) → IsAuction a → AreStandings a standings → k < length a.bidders → AreStandings (without_at a k) (remove standings k)
@@ -33,14 +33,14 @@ one_leaves a standings k sound stand h = record {
   each = λ j l. ⊎_elim (λ b. below j (let q = length-remove a.bidders k h in omega (arith, q, l)) b) (λ b. above j (let q = length-remove a.bidders k h in omega (arith, q, l)) b) (cases_lt j k);
 }
   where
-    below : (j : ℕ) → j < length a.bidders → j < k → StandsFor (entrant_at (without_at a k) j) (standing_at (remove standings k) j)
+    below : (j : ℕ) → j < length a.bidders → j < k → HasStanding (entrant_at (without_at a k) j) (standing_at (remove standings k) j)
     below j l b = same_stands a (without_at a k) j j (standing_at standings j) (standing_at (remove standings k) j)
         (ap (λ (x : Bidder). x.1) (get_or-remove_below a.bidders k nobody j b h))
         (get_or-remove_below a.caps k None j b (let m = sound.caps.size in omega (arith, m, h)))
         (get_or-remove_below standings k Open j b (let n = stand.count in omega (arith, n, h)))
         (stand.each j l)
 
-    above : (j : ℕ) → j + 1 < length a.bidders → k ≤ j → StandsFor (entrant_at (without_at a k) j) (standing_at (remove standings k) j)
+    above : (j : ℕ) → j + 1 < length a.bidders → k ≤ j → HasStanding (entrant_at (without_at a k) j) (standing_at (remove standings k) j)
     above j l b = same_stands a (without_at a k) (j + 1) j (standing_at standings (j + 1)) (standing_at (remove standings k) j)
         (ap (λ (x : Bidder). x.1) (get_or-remove_above a.bidders k nobody j b h))
         (get_or-remove_above a.caps k None j b (let m = sound.caps.size in omega (arith, m, h)))

@@ -3,15 +3,13 @@ use Rattle.std.specs.Prelude.{◌≡◌, ℕ, List, [], ◌∷◌, ◌++◌, len
 use Rattle.mix_text.specs.Auctions.{AuctionText}
 use Rattle.mix_text.specs.declared.faults.TextError.{TextError}
 use Rattle.mix_answer.specs.Outcomes.{outcome_text}
-use Rattle.mix_answer.specs.Truths.{HaveFirstTights, IsTrueOutcome}
 use Rattle.mix_answer.specs.declared.outcome.Outcome.{Outcome}
-use Rattle.mix_serve.specs.Solved.{OfAnswer}
+use Rattle.mix_serve.specs.Solved.{IsSolved}
 
 -- the text of a true outcome of an auction, whose pairs are the first tight ones
 pub record IsOutcomeText (a : AuctionText) (bytes : List ℕ) : Type 0 where
   pub outcome : Outcome
-  pub true_outcome : IsTrueOutcome a outcome
-  pub first_tights : OfAnswer (HaveFirstTights a) outcome
+  pub solved : IsSolved a outcome
   pub text : bytes ≡ outcome_text a outcome
 
 -- bytes, and after them such a text

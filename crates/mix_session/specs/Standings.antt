@@ -9,10 +9,10 @@ use Rattle.mix_session.specs.declared.standing.Standing.TheVariants.{Convex, Ope
 use Rattle.mix_session.specs.Sessions.{AreReached}
 
 -- what is known of a bidder is true: the member stands for it and it is convex, or it isn't, as a facet of its list shows; or nothing is known
-abbrev pub StandsFor : Entrant → Standing → Type 0
-StandsFor e Open = Unit {0}
-StandsFor e (Convex member) = (entrant_of member ≡ e) × IsConvexEntrant e
-StandsFor e (Refused facet) = ¬ IsConvexEntrant e × IsNegativeFacet e.list facet.first facet.second facet.prices.items facet.weight
+abbrev pub HasStanding : Entrant → Standing → Type 0
+HasStanding e Open = Unit {0}
+HasStanding e (Convex member) = (entrant_of member ≡ e) × IsConvexEntrant e
+HasStanding e (Refused facet) = ¬ IsConvexEntrant e × IsNegativeFacet e.list facet.first facet.second facet.prices.items facet.weight
 
 -- it is known whether the bidder is convex
 abbrev pub IsKnown : Standing → Type 0
@@ -40,7 +40,7 @@ AreTakenIn standings = AreTakenInBefore standings (length standings)
 -- what is known of the bidders in order
 pub record AreStandings (a : AuctionText) (standings : List Standing) : Type 0 where
   pub count : length standings ≡ length a.bidders
-  pub each : (k : ℕ) → k < length a.bidders → StandsFor (entrant_at a k) (standing_at standings k)
+  pub each : (k : ℕ) → k < length a.bidders → HasStanding (entrant_at a k) (standing_at standings k)
 
 -- what holds of a session's last prices and of what it knows of the bidders
 pub record IsSession (a : AuctionText) (last : List ℤ) (standings : List Standing) : Type 0 where

@@ -47,10 +47,9 @@ pub(crate) fn test_added(
     if is_capped_negative(auction, name, bid) {
         return Err(AddError::Weight);
     }
-    match auction.limit_of_added(alloc, name, copy(bid)) {
-        Ok(None) => Ok(()),
-        Ok(Some(what)) => Err(AddError::Limit(what)),
-        Err(Memory) => Err(AddError::Memory),
+    match auction.limit_of_added(alloc, name, copy(bid))? {
+        None => Ok(()),
+        Some(what) => Err(AddError::Limit(what)),
     }
 }
 

@@ -1,4 +1,8 @@
 // Why a session doesn't change.
+ghost use Rattle.std.specs.Prelude.{◌≡◌};
+ghost use Rattle.mix_session.specs.declared.faults.AddError.TheVariants.{Memory as WantOfMemory};
+
+use mix_num::Memory;
 use mix_text::What;
 use thiserror::Error;
 
@@ -13,6 +17,14 @@ pub enum AddError {
     Limit(What),
     #[error("out of memory")]
     Memory,
+}
+
+impl From<Memory> for AddError {
+    ghost from_gives = { λ _ e. e ≡ WantOfMemory };
+
+    fn from(_: Memory) -> AddError {
+        AddError::Memory
+    }
 }
 
 /// No bidder has the name.

@@ -4,7 +4,6 @@
 
 mod changes;
 mod clearing;
-mod copies;
 mod faults;
 mod members;
 mod playing;

@@ -39,9 +39,7 @@ fn add_text<L: Ledger>(
 {
     let outcome = session.clear(alloc, steps)?;
     let text = print_outcome(alloc, session.auction(), &outcome)?;
-    let Ok(()) = texts.extend_from_slice(&text) else {
-        return Err(Memory);
-    };
+    texts.extend_from_slice(&text)?;
     Ok(())
 }
 
@@ -59,13 +57,9 @@ fn play_clear<L: Ledger>(
     ensures wrong { IfErr result (IsFromText (clear_in playing.old.clears row.now)) }
 {
     test_clear(row, playing.clears)?;
-    match add_text(alloc, &mut playing.session, &mut playing.texts, steps) {
-        Ok(()) => {
-            playing.clears += 1;
-            Ok(())
-        }
-        Err(Memory) => Err(TextError::Memory),
-    }
+    add_text(alloc, &mut playing.session, &mut playing.texts, steps)?;
+    playing.clears += 1;
+    Ok(())
 }
 
 // Plays a row that adds, drops or asks for an outcome.
@@ -153,8 +147,6 @@ pub fn play(alloc: Global, auction: Auction, rest: &Rest) -> Result<Vec<u8>, Tex
     ensures played { IfOk result (λ bytes. ArePlayed (session_of (auction_text auction) rest.now) bytes.items) }
     ensures wrong { IfErr result (IsFromText (session_of (auction_text auction) rest.now)) }
 {
-    match Session::begin(alloc, auction) {
-        Ok(session) => texts_of::<Brand>(alloc, session, rest, Blank::new(1)),
-        Err(Memory) => Err(TextError::Memory),
-    }
+    let session = Session::begin(alloc, auction)?;
+    texts_of::<Brand>(alloc, session, rest, Blank::new(1))
 }

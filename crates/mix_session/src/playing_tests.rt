@@ -15,6 +15,10 @@ const P_FOR_3: &[u8] =
 const CAPPED: &[u8] =
     b"mix,3\ngoods,A\nsupply,1\nreserve,0\nbid,P,1,5\nbid,Q,1,5\ncap,P,0\norder,P,Q\nend\n";
 
+// Q takes at most one unit, and is served first.
+const CAPPED_FIRST: &[u8] =
+    b"mix,3\ngoods,A\nsupply,1\nreserve,0\nbid,P,1,5\nbid,Q,1,5\ncap,Q,1\norder,Q,P\nend\n";
+
 // P takes back a bid that it never made: rows 1 to 6.
 const TAKEN_BACK: &[u8] = b"mix,1\ngoods,A\nsupply,1\nreserve,0\nbid,P,-1,5\nend\n";
 
@@ -39,10 +43,11 @@ fn times(alloc: Global, text: &[u8], count: usize) -> Result<Vec<u8>, Fail> {
 }
 
 #[test]
-fn sessions(rt: HostRuntime) -> Result<(), Fail> {
+fn outcomes_come_one_after_the_other(rt: HostRuntime) -> Result<(), Fail> {
     let alloc = rt.alloc();
-    let cases: [(&[u8], &[u8], &[u8]); 7] = [
+    let cases: [(&[u8], &[u8], &[u8]); 10] = [
         (ONE_UNIT, b"close\n", b""),
+        (ONE_UNIT, b"add,P,1,4\ndrop,Q\nclose\n", b""),
         // Without P the price falls to 0; R bids more than Q, so it rises to the 3 that Q would pay.
         (
             ONE_UNIT,
@@ -67,6 +72,18 @@ fn sessions(rt: HostRuntime) -> Result<(), Fail> {
             b"clear\ndrop,P\nadd,P,1,5\nclear\nclose\n",
             b"outcome,2\norder,P,Q\ncleared\nprice,0\nshare,P,0,0\nshare,Q,1,0\nreturn,0\ntight,P,A,2,0\ntight,Q,A,2,0\nend\noutcome,2\norder,Q,P\ncleared\nprice,5\nshare,Q,1,5\nshare,P,0,0\nreturn,0\ntight,Q,A,2,0\ntight,P,A,3,1\nend\n",
         ),
+        // Q leaves and comes again with a negative bid, which stands under no cap any more, and is served last.
+        (
+            CAPPED_FIRST,
+            b"drop,Q\nadd,Q,-1,5\nadd,Q,2,5\nclear\nclose\n",
+            b"outcome,2\norder,P,Q\ncleared\nprice,5\nshare,P,1,5\nshare,Q,0,0\nreturn,0\ntight,P,A,2,0\ntight,Q,A,3,1\nend\n",
+        ),
+        // A bidder is refused as long as it is there.
+        (
+            ONE_UNIT,
+            b"add,X,-1,4\nclear\nclear\ndrop,X\nclear\nclose\n",
+            b"outcome,1\nrefused,X,-,A,4,-1\nend\noutcome,1\nrefused,X,-,A,4,-1\nend\noutcome,1\ncleared\nprice,3\nshare,P,1,3\nshare,Q,0,0\nreturn,0\ntight,P,A,2,0\ntight,Q,A,3,1\nend\n",
+        ),
         // What a refusal tells stays true, until the list changes or leaves.
         (
             TAKEN_BACK,
@@ -87,9 +104,9 @@ fn sessions(rt: HostRuntime) -> Result<(), Fail> {
 }
 
 #[test]
-fn faults(rt: HostRuntime) -> Result<(), Fail> {
+fn the_first_row_that_is_wrong_decides(rt: HostRuntime) -> Result<(), Fail> {
     let alloc = rt.alloc();
-    let cases: [(&[u8], &[u8], u64, Code); 26] = [
+    let cases: [(&[u8], &[u8], u64, Code); 28] = [
         (ONE_UNIT, b"", 8, Code::End),
         (ONE_UNIT, b"clear\n", 9, Code::End),
         (ONE_UNIT, b"close\nclear\n", 9, Code::After),
@@ -97,6 +114,8 @@ fn faults(rt: HostRuntime) -> Result<(), Fail> {
         (ONE_UNIT, b"clear\nend\nclose\n", 9, Code::Place),
         (ONE_UNIT, b"clear,A\nclose\n", 8, Code::Fields),
         (ONE_UNIT, b"close,A\n", 8, Code::Fields),
+        (ONE_UNIT, b"clear\nclose,P\n", 9, Code::Fields),
+        (ONE_UNIT, b"add,P,0,5\n", 8, Code::Weight),
         (ONE_UNIT, b"drop\nclose\n", 8, Code::Fields),
         (ONE_UNIT, b"drop,P,Q\nclose\n", 8, Code::Fields),
         (ONE_UNIT, b"drop,9\nclose\n", 8, Code::Name),
@@ -130,7 +149,7 @@ fn faults(rt: HostRuntime) -> Result<(), Fail> {
 }
 
 #[test]
-fn limits(rt: HostRuntime) -> Result<(), Fail> {
+fn the_first_row_past_a_limit_decides(rt: HostRuntime) -> Result<(), Fail> {
     let alloc = rt.alloc();
     // The row that is told so many times, and where the first limit is passed.
     let cases: [(&[u8], usize, u64, What); 3] = [

@@ -13,12 +13,11 @@ ghost use Rattle.mix_session.specs.Sessions.{IsFoundInSteps, TakesNone, last_aft
 
 use crate::changes::{add_to, drop_from, test_added};
 use crate::clearing::answer_from;
-use crate::copies::copy;
 use crate::faults::{AddError, NoBidder};
 use crate::standing::{Standing, first_refusal};
 use mix_answer::Outcome;
 use mix_bids::Bid;
-use mix_num::{Memory, Prices};
+use mix_num::{Memory, Prices, copy};
 use mix_step::Steps;
 use mix_text::{Auction, Name};
 use std::alloc::Global;
@@ -54,9 +53,7 @@ fn nothing_known(alloc: Global, count: usize) -> Result<Vec<Standing>, Memory>
 {
     let mut standings = Vec::new(alloc);
     for _ in 0..count {
-        let Ok(()) = standings.push(Standing::Open) else {
-            return Err(Memory);
-        };
+        standings.push(Standing::Open)?;
     }
     Ok(standings)
 }
@@ -109,10 +106,8 @@ impl Session {
     {
         let alloc = *self.standings.allocator();
         test_added(alloc, &self.auction, name, &bid)?;
-        match add_to(&mut self.auction, &mut self.standings, name, bid) {
-            Ok(()) => Ok(()),
-            Err(Memory) => Err(AddError::Memory),
-        }
+        add_to(&mut self.auction, &mut self.standings, name, bid)?;
+        Ok(())
     }
 
     /// Takes the bidder of this name out, with its bids and its cap. The last prices stay, and it takes no memory.

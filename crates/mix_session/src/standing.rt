@@ -4,12 +4,11 @@ ghost use Rattle.mix_text.specs.AuctionTexts.{auction_text};
 ghost use Rattle.mix_answer.specs.Refusals.{IsTrueRefusal};
 ghost use Rattle.mix_answer.specs.Utilities.{entrant_at};
 ghost use Rattle.mix_serve.specs.Admissions.{IsRefusedAt};
-ghost use Rattle.mix_session.specs.Standings.{AreStandings, AreTakenIn, IsKnown, IsTakenIn, StandsFor};
+ghost use Rattle.mix_session.specs.Standings.{AreStandings, AreTakenIn, HasStanding, IsKnown, IsTakenIn};
 
-use crate::copies::copy;
 use mix_answer::Refusal;
 use mix_cap::Member;
-use mix_num::Memory;
+use mix_num::{Memory, copy};
 use mix_serve::{Stopped, admit_bidder};
 use mix_text::Auction;
 use mix_validity::NotValid;
@@ -54,7 +53,7 @@ fn refusal_by(facet: &NotValid, bidder: usize) -> Refusal
 // What is found of the bidder at a place.
 fn found_at(alloc: Global, auction: &Auction, k: usize) -> Result<Standing, Memory>
     requires { k < length auction.now.bidders }
-    ensures stands { IfOk result (StandsFor (entrant_at (auction_text auction.now) k)) }
+    ensures stands { IfOk result (HasStanding (entrant_at (auction_text auction.now) k)) }
     ensures known { IfOk result IsKnown }
 {
     match admit_bidder(alloc, auction, k) {
@@ -72,8 +71,8 @@ fn find_at(
     standing: &mut Standing,
 ) -> Result<(), Memory>
     requires place { k < length auction.now.bidders }
-    requires stands { StandsFor (entrant_at (auction_text auction.now) k) standing.old }
-    ensures stands { StandsFor (entrant_at (auction_text auction.now) k) standing.new }
+    requires stands { HasStanding (entrant_at (auction_text auction.now) k) standing.old }
+    ensures stands { HasStanding (entrant_at (auction_text auction.now) k) standing.new }
     ensures known { OnOk result (IsKnown standing.new) }
 {
     if let Standing::Open = standing {
@@ -85,7 +84,7 @@ fn find_at(
 // The refusal of the bidder at a place, of whom it is known whether it is convex, where it isn't.
 fn refusal_at(auction: &Auction, k: usize, standing: &Standing) -> Option<Refusal>
     requires place { k < length auction.now.bidders }
-    requires stands { StandsFor (entrant_at (auction_text auction.now) k) standing.now }
+    requires stands { HasStanding (entrant_at (auction_text auction.now) k) standing.now }
     requires known { IsKnown standing.now }
     ensures { MatchOption result (IsTakenIn standing.now) (λ r. IsRefusedAt (auction_text auction.now) k (Stopped.Refused r)) }
 {

@@ -11,12 +11,12 @@ use Rattle.mix_num.specs.Sums.{sum_in}
 use Rattle.mix_num.specs.Tables.{IsProper}
 use Rattle.mix_law.specs.Demands.{table_of}
 use Rattle.mix_law.proofs.MemberTables.{table-proper}
-use Rattle.mix_seller.specs.Laws.{seller_convex}
+use Rattle.mix_seller.specs.Laws.{seller_l_natural}
 use Rattle.mix_market.specs.Lyapunov.{IsLeastPoint, lyapunov}
 use Rattle.mix_ties.specs.Shares.{AreProper}
 use Rattle.mix_ties.proofs.RowTurns.{proper-turns}
 use Rattle.mix_ties.proofs.TieRules.{tie_rule, shares-of_turns}
-use Rattle.mix_clearing.specs.Clearings.{AreLeastClearing, CanClear, bidder_utility}
+use Rattle.mix_law.specs.Clearings.{AreLeastClearing, CanClear, bidder_utility}
 use Rattle.mix_clearing.specs.Utilities.{KeepLaws}
 use Rattle.mix_clearing.proofs.LeastClearing.{least_clearing-where_least_point, least_point-where_least_clearing}
 use Rattle.mix_clearing.proofs.LyapunovLaws.{keep_local, lyapunov_keeps_local}
@@ -66,10 +66,10 @@ module _ (utilities : List (Vector → ℤ)) (supply reserve p : List ℤ) (laws
   row-proper : (k : ℕ) → (k ≡ m) ⊎ (k < m) → IsProper n (get_or rows k [])
   row-proper k (inl e) =
       let last : get_or rows k [] ≡ seller = ap (λ (j : ℕ). get_or rows j []) (e ∙ sym bidders-count) ∙ get_or-append_seam bidders seller [] [] in
-      subst (IsProper n) (sym last) (table-proper (seller_convex supply reserve sale) sale.some p seller (units_few supply reserve sale) (table_of-is n (seller_gain supply reserve) p))
+      subst (IsProper n) (sym last) (table-proper (seller_l_natural supply reserve sale) sale.some p seller (units_few supply reserve sale) (table_of-is n (seller_gain supply reserve) p))
   row-proper k (inr l) =
       let own : get_or rows k [] ≡ table_of n (bidder_utility utilities k) p = get_or_append_left bidders (seller ∷ []) [] k (omega (arith, l, bidders-count)) ∙ get_or-map (λ f. table_of n f p) utilities k (λ x. pos 0) [] l in
-      subst (IsProper n) (sym own) (table-proper (laws k l).convex sale.some p (table_of n (bidder_utility utilities k) p) (few k l) (table_of-is n (bidder_utility utilities k) p))
+      subst (IsProper n) (sym own) (table-proper (laws k l).l_natural sale.some p (table_of n (bidder_utility utilities k) p) (few k l) (table_of-is n (bidder_utility utilities k) p))
 
   rows-proper : AreProper n rows
   rows-proper k h = row-proper k (eq-or-lt_of_le (let le : k ≤ m = omega (arith, h, rows-count) in le))

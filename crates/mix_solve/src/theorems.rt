@@ -1,7 +1,7 @@
 // What holds of every auction, the contract of a call that does nothing.
 ghost use Rattle.std.specs.Prelude.{◌↔◌, ℤ, List};
 ghost use Rattle.mix_text.specs.AuctionTexts.{auction_text};
-ghost use Rattle.mix_clearing.specs.Clearings.{AreLeastClearing};
+ghost use Rattle.mix_law.specs.Clearings.{AreLeastClearing};
 ghost use Rattle.mix_answer.specs.Refusals.{AreConvex};
 ghost use Rattle.mix_answer.specs.Utilities.{utilities_of};
 ghost use Rattle.mix_serve.specs.LeastPrices.{AreLeastPrices};

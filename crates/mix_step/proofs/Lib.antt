@@ -1,1 +1,12 @@
 pub mod FirstSteepest
+pub mod Climbs
+pub mod Rooms
+pub mod Bounds
+pub mod Gaps
+pub mod Units
+pub mod Rises
+pub mod LargestSets
+pub mod LargestFalls
+pub mod Straights
+pub mod LongRises
+pub mod LongMoves

@@ -46,17 +46,17 @@ fn unasked<D: Convex>(member: D) -> Counted<D>
 }
 
 impl<D: Convex> Convex for Counted<D> {
-    ghost size = { λ counted. D.size counted.member };
+    ghost goods = { λ counted. D.goods counted.member };
 
-    ghost weight = { λ counted. D.weight counted.member };
+    ghost total = { λ counted. D.total counted.member };
 
-    ghost ceiling = { λ counted. D.ceiling counted.member };
+    ghost top = { λ counted. D.top counted.member };
 
     ghost function = { λ counted. D.function counted.member };
 
-    ghost span = { λ counted. D.span counted.member };
+    ghost reach = { λ counted. D.reach counted.member };
 
-    ghost convex = { λ counted. D.convex counted.member };
+    ghost l_natural = { λ counted. D.l_natural counted.member };
 
     fn goods(&self) -> usize {
         self.member.goods()

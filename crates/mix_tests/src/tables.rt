@@ -90,7 +90,7 @@ fn amounts(each: i64) -> Bundle
 
 /// The member's table at the prices.
 fn table<D: Convex>(alloc: Global, member: &D, first: i64, second: i64) -> Result<Rho, Memory>
-    requires size { D.size member.now ≡ 2 }
+    requires size { D.goods member.now ≡ 2 }
     requires first { Lies 3999999 first }
     requires second { Lies 3999999 second }
     ensures { IfOk result (λ table. length table ≡ 8) }
@@ -141,7 +141,7 @@ fn both_amounts(first: i64, second: i64) -> Bundle
 /// What is asked of a member at prices of both goods and of the first good alone: its total, its tops, its value, its fall, its
 /// gain and its reach.
 fn answers<D: Convex>(member: &D, first: i64, second: i64) -> [i64; 7]
-    requires size { D.size member.now ≡ 2 }
+    requires size { D.goods member.now ≡ 2 }
     requires first { Lies 3999999 first }
     requires second { Lies 3999999 second }
 {
@@ -165,7 +165,7 @@ fn slopes<D: Convex + Drop>(
     first: i64,
     second: i64,
 ) -> Result<SetTable, Fail>
-    requires size { D.size member ≡ 2 }
+    requires size { D.goods member ≡ 2 }
     requires first { Lies 3999999 first }
     requires second { Lies 3999999 second }
 {

@@ -14,7 +14,7 @@ use Rattle.mix_bids.specs.declared.bid.Bid.{Bid}
 use Rattle.mix_text.specs.Auctions.{AuctionText, IsAuction, IsBook}
 use Rattle.mix_text.specs.Bidders.{Named, list_at, name_at, place_of, with_bid}
 use Rattle.mix_text.specs.Caps.{cap_at, no_caps}
-use Rattle.mix_text.specs.Changes.{cap_of_name, cap_under, limit_of_added, limit_under, no_bids, one_bid, order_without, with_added, with_bid_under, without, without_at, without_found}
+use Rattle.mix_text.specs.Changes.{cap_of_name, cap_under, limit_of_added, limit_under, no_bids, one_bid, order_without, with_added, with_bid_under, without_at}
 use Rattle.mix_text.specs.Formats.{limits_of}
 use Rattle.mix_text.specs.Names.{AreNames, is_among}
 use Rattle.mix_text.specs.Orders.{IsTieOrder}
@@ -64,13 +64,6 @@ without_one a k m s h size left =
 
 pub without_auction : (a : AuctionText) (k : ℕ) → IsAuction a → k < length a.bidders → IsAuction (without_at a k)
 without_auction a k s h = let size = length-remove a.bidders k h in without_one a k (length (remove a.bidders k)) s (omega (arith, h, size)) (omega (arith, size)) refl
-
-pub without_is : (a : AuctionText) (name : List ℕ) → IsAuction a → IsAuction (without a name)
-without_is a name s = at (place_of name a.bidders) refl
-  where
-    at : (place : Option ℕ) → place_of name a.bidders ≡ place → IsAuction (without_found a place)
-    at None e = s
-    at (Some k) e = without_auction a k s (found_below name a.bidders k e)
 
 -- ---- a bid is added
 

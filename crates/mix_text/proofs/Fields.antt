@@ -43,10 +43,6 @@ kept-last-full fs n e last =
     let is = to-last fs n e in
     ap kept is ∙ full-go (take n fs) (get_or fs n []) last ∙ sym is
 
-pub kept-none : (fs : List (List ℕ)) → length fs ≡ 0 → kept fs ≡ fs
-kept-none [] h = refl
-kept-none (f ∷ fs) h = absurd (omega arith)
-
 -- what a test of a field's length says
 pub some-of : (f : List ℕ) → (length f == 0) ≡ false → 0 < length f
 some-of [] e = cc e

@@ -5,9 +5,8 @@ use Rattle.std.proofs.lemmas.Bool.{cases_Bool}
 use Rattle.std.proofs.lemmas.Bool.Decides.{nat_tests}
 use Rattle.std.proofs.lemmas.List.{drop_all}
 use Rattle.mix_text.specs.Rows.{RowText}
-use Rattle.mix_num.specs.Orders.{places}
 use Rattle.mix_text.specs.Bidders.{Named}
-use Rattle.mix_text.specs.Reading.{◌>>=◌, NamedBid, bid_row_of, bids_from, cap_row_of, caps_from, end_from, end_of, ends_bids, is_cap_row, is_order_row, limit_of, order_from, order_row_of, placed, read_at}
+use Rattle.mix_text.specs.Reading.{◌>>=◌, NamedBid, bid_row_of, bids_from, cap_row_of, caps_from, end_from, end_of, ends_bids, is_cap_row, limit_of, read_at}
 use Rattle.mix_text.specs.declared.faults.Code.{Code}
 use Rattle.mix_text.specs.declared.faults.What.{What}
 use Rattle.mix_text.specs.declared.faults.TextError.TheVariants as error
@@ -66,22 +65,6 @@ pub cap_more : (format : ℕ) (bidders : Named) (caps more : List (Option ℤ)) 
     → caps_from format bidders caps (row ∷ rest) ≡ caps_from format bidders more rest
 unfolding caps_from
 cap_more format bidders caps more row rest h e = rw (← h, e) refl
-
--- the order that the row at a place states
-pub states : (format : ℕ) (bidders : Named) (rows : List RowText) (k : ℕ) (row : RowText) → k < length rows → row ≡ get_or rows k row → true ≡ is_order_row format row.fields
-    → order_from format bidders (drop k rows) ≡ (placed row.number (order_row_of bidders row.fields) >>= λ order. Ok (order, drop (k + 1) rows))
-unfolding order_from
-states format bidders rows k row h e o = rw (rows_from rows k row h e, ← o) refl
-
--- no order is stated: another row, or none
-pub states_none : (format : ℕ) (bidders : Named) (rows : List RowText) (k : ℕ) (row : RowText) → k < length rows → row ≡ get_or rows k row → false ≡ is_order_row format row.fields
-    → order_from format bidders (drop k rows) ≡ Ok (places (length bidders), drop k rows)
-unfolding order_from
-states_none format bidders rows k row h e o = let r = rows_from rows k row h e in rw r (rw (← o) refl)
-
-pub no_row : (format : ℕ) (bidders : Named) (rows : List RowText) (k : ℕ) → length rows ≤ k → order_from format bidders (drop k rows) ≡ Ok (places (length bidders), drop k rows)
-unfolding order_from
-no_row format bidders rows k h = rw (drop_all k rows h) refl
 
 -- the last row stands at a place
 pub end_at : (rows : List RowText) (k : ℕ) → end_from (length rows + 1) (drop k rows) ≡ (read_at rows k end_of >>= λ _. Ok (drop (k + 1) rows))

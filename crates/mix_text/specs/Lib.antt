@@ -11,3 +11,4 @@ pub mod Limits
 pub mod Orders
 pub mod Caps
 pub mod Changes
+pub mod SharedRows

@@ -11,7 +11,6 @@ use crate::formats::has_caps;
 use crate::order_reading::read_bidder;
 use crate::row::Row;
 use crate::row_reading::{fault, number_at, row_begins, unless};
-use mix_num::Memory;
 use std::alloc::Global;
 
 /// Whether a row gives a bidder a cap.
@@ -26,10 +25,7 @@ fn without_caps(alloc: Global, bidders: &Bidders) -> Result<Caps, TextError>
     ensures read { IfOk result (λ caps. caps ≡ no_caps (length bidders.now)) }
     ensures wrong { IfErr result (λ e. e ≡ TextError.Memory) }
 {
-    match Caps::none(alloc, bidders.count()) {
-        Ok(caps) => Ok(caps),
-        Err(Memory) => Err(TextError::Memory),
-    }
+    Ok(Caps::none(alloc, bidders.count())?)
 }
 
 // Reads a row that gives a bidder a cap, and gives it. Where the row is wrong, the caps stay as they were.
@@ -52,7 +48,7 @@ fn read_cap(bidders: &Bidders, row: &Row, caps: &mut Caps) -> Result<(), Code>
 
 /// Caps, and the place of the row from which the reading goes on.
 #[derive(Drop)]
-pub(crate) struct Capped {
+pub(crate) struct CapsRead {
     pub caps: Caps,
     pub after: usize,
 }
@@ -64,7 +60,7 @@ pub(crate) fn read_caps(
     bidders: &Bidders,
     rows: &[Row],
     start: usize,
-) -> Result<Capped, TextError>
+) -> Result<CapsRead, TextError>
     requires { start ≤ length rows.now }
     ensures read { IfOk result (λ capped. ReadsCaps format bidders.now rows.now start capped.caps capped.after) }
     ensures wrong { IfErr result (λ e. IsFromText (caps_from format bidders.now (no_caps (length bidders.now)) (drop start rows.now)) e) }
@@ -73,13 +69,13 @@ pub(crate) fn read_caps(
     for k in start..rows.len() {
         let row = &rows[k];
         if !gives_cap(format, row) {
-            return Ok(Capped { caps, after: k });
+            return Ok(CapsRead { caps, after: k });
         }
         if let Err(code) = read_cap(bidders, row, &mut caps) {
             return Err(fault(row.number(), code));
         }
     }
-    Ok(Capped {
+    Ok(CapsRead {
         caps,
         after: rows.len(),
     })

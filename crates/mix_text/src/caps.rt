@@ -25,10 +25,8 @@ impl Caps {
     pub fn none(alloc: Global, count: usize) -> Result<Caps, Memory>
         ensures { IfOk result (λ caps. caps ≡ no_caps count) }
     {
-        match vec![in alloc; None; count] {
-            Ok(caps) => Ok(Caps { caps }),
-            Err(_) => Err(Memory),
-        }
+        let caps = vec![in alloc; None; count]?;
+        Ok(Caps { caps })
     }
 
     /// The cap of the bidder at a place, from 0.
@@ -59,9 +57,7 @@ impl Caps {
         ensures ok { OnOk result (self.new ≡ self.old ++ cap ∷ []) }
         ensures err { OnErr result (self.new ≡ self.old) }
     {
-        let Ok(()) = self.caps.push(cap) else {
-            return Err(Memory);
-        };
+        self.caps.push(cap)?;
         Ok(())
     }
 

@@ -1,4 +1,8 @@
 // Why a text is refused: a row that is wrong, or one that passes a limit.
+ghost use Rattle.std.specs.Prelude.{◌≡◌};
+ghost use Rattle.mix_text.specs.declared.faults.TextError.TheVariants.{Memory as WantOfMemory};
+
+use mix_num::Memory;
 use thiserror::Error;
 
 /// What is wrong with a row.
@@ -76,4 +80,12 @@ pub enum TextError {
     Limit(Limit),
     #[error("out of memory")]
     Memory,
+}
+
+impl From<Memory> for TextError {
+    ghost from_gives = { λ _ e. e ≡ WantOfMemory };
+
+    fn from(_: Memory) -> TextError {
+        TextError::Memory
+    }
 }

@@ -22,6 +22,7 @@ mod rest;
 mod row;
 mod row_list;
 mod row_reading;
+mod shared_rows;
 mod spelling;
 
 pub use auction::Auction;
@@ -39,4 +40,5 @@ pub use rest::{Rest, no_rest};
 pub use row::Row;
 pub use row_list::{RowList, rows};
 pub use row_reading::{read_bid, read_numbers, row_begins, unless};
+pub use shared_rows::{add_amounts, add_end, add_order};
 pub use spelling::{Name, read_name, read_number};

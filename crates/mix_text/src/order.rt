@@ -64,9 +64,7 @@ impl Order {
         ensures ok { OnOk result (self.new ≡ self.old ++ place ∷ []) }
         ensures err { OnErr result (self.new ≡ self.old) }
     {
-        let Ok(()) = self.places.push(place) else {
-            return Err(Memory);
-        };
+        self.places.push(place)?;
         Ok(())
     }
 

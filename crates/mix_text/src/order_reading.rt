@@ -11,7 +11,6 @@ use crate::order::Order;
 use crate::row::Row;
 use crate::row_reading::{fault, row_begins, unless};
 use crate::spelling::read_name;
-use mix_num::Memory;
 use std::alloc::Global;
 
 /// Whether a row states the tie order.
@@ -66,10 +65,8 @@ fn serve(
         return Err(fault(row.number(), Code::Repeated));
     }
     marks[place] = true;
-    match order.push(place) {
-        Ok(()) => Ok(()),
-        Err(Memory) => Err(TextError::Memory),
-    }
+    order.push(place)?;
+    Ok(())
 }
 
 // Reads the bidders in the order in which the fields after the first name them, none of them twice.
@@ -102,10 +99,7 @@ fn first_order(alloc: Global, bidders: &Bidders) -> Result<Order, TextError>
     ensures order { IfOk result (λ order. order ≡ places_of (length bidders.now)) }
     ensures wrong { IfErr result (λ e. e ≡ TextError.Memory) }
 {
-    match Order::of_appearance(alloc, bidders.count()) {
-        Ok(order) => Ok(order),
-        Err(Memory) => Err(TextError::Memory),
-    }
+    Ok(Order::of_appearance(alloc, bidders.count())?)
 }
 
 /// A tie order, and the place of the row from which the reading goes on.

@@ -58,10 +58,8 @@ fn add_name(names: &mut Names, row: &Row, k: usize) -> Result<(), TextError>
     if names.contains(&name) {
         return Err(fault(row.number(), Code::Repeated));
     }
-    match names.push(name) {
-        Ok(()) => Ok(()),
-        Err(Memory) => Err(TextError::Memory),
-    }
+    names.push(name)?;
+    Ok(())
 }
 
 // The names after the first field, all different.
@@ -288,10 +286,7 @@ pub fn read_auction(alloc: Global, text: &[u8]) -> Result<(Auction, Rest), TextE
     ensures limits { IfOk result (λ p. MeetsLimits (auction_text p.0)) }
     ensures wrong { IfErr result (λ e. IsFromText (reading_of (rows_of text.now)) e) }
 {
-    let list = match rows(alloc, text) {
-        Ok(list) => list,
-        Err(Memory) => return Err(TextError::Memory),
-    };
+    let list = rows(alloc, text)?;
     let read = read_rows(alloc, list.rows())?;
     Ok((read.auction, Rest::after(list, read.after)))
 }

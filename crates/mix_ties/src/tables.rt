@@ -75,8 +75,8 @@ impl Tables {
     /// Sets a row, from 0, to the table of a member at prices.
     pub fn fill<D: Convex>(&mut self, row: usize, member: &D, prices: &Prices)
         requires row { row < length self.old.rows }
-        requires goods { D.size member.now ≡ self.old.goods }
-        requires prices { HaveRoom (D.size member.now) prices.now.items }
+        requires goods { D.goods member.now ≡ self.old.goods }
+        requires prices { HaveRoom (D.goods member.now) prices.now.items }
         ensures goods { self.new.goods ≡ self.old.goods }
         ensures members { length self.new.rows ≡ length self.old.rows }
         ensures table { IsTableOf self.old.goods (D.function member.now) prices.now.items (slice_index_or self.new.rows row []) }
@@ -125,10 +125,8 @@ fn add_row(alloc: Global, rows: &mut Vec<Rho>, goods: usize) -> Result<(), Memor
     ensures { OnOk result (rows.new.items ≡ rows.old.items ++ replicate (2 ^ suc goods) (pos 0) ∷ []) }
 {
     let row = Rho::zero(alloc, goods)?;
-    match rows.push(row) {
-        Ok(()) => Ok(()),
-        Err(_) => Err(Memory),
-    }
+    rows.push(row)?;
+    Ok(())
 }
 
 /// Room for a number for each set.
@@ -136,8 +134,5 @@ fn room(alloc: Global, goods: usize) -> Result<Vec<i64>, Memory>
     requires { goods ≤ 8 }
     ensures { IfOk result (λ numbers. length numbers.items ≡ 2 ^ suc goods) }
 {
-    match vec![in alloc; 0; sets_of(goods)] {
-        Ok(numbers) => Ok(numbers),
-        Err(_) => Err(Memory),
-    }
+    Ok(vec![in alloc; 0; sets_of(goods)]?)
 }

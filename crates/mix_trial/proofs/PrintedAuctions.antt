@@ -20,10 +20,11 @@ use Rattle.mix_text.specs.Bidders.{Named, name_at, names_at}
 use Rattle.mix_text.specs.Caps.{cap_at}
 use Rattle.mix_text.specs.Formats.{has_order}
 use Rattle.mix_text.specs.Pages.{PageText, is_printable, is_printable_row, line_of, printed}
+use Rattle.mix_text.specs.SharedRows.{amounts_row, end_row, order_rows}
 use Rattle.mix_text.specs.Spelling.{is_name}
 use Rattle.mix_text.proofs.PrintedNumbers.{signed_printable}
 use Rattle.mix_text.proofs.Spellings.{name_printable}
-use Rattle.mix_trial.specs.Printing.{amounts_row, auction_rows, bid_row, bidder_rows, cap_rows, end_row, goods_row, head_row, order_rows, value_text}
+use Rattle.mix_trial.specs.Printing.{auction_rows, bid_row, bidder_rows, cap_rows, goods_row, head_row, value_text}
 use Rattle.mix_trial.proofs.PrintedBids.{printed-append}
 
 whole_text : (a b c d f g h i : List ℕ) → ((((((a ++ b) ++ c) ++ d) ++ f) ++ g) ++ h) ++ i ≡ a ++ (b ++ (c ++ (d ++ (f ++ (g ++ (h ++ i))))))

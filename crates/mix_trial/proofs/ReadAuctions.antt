@@ -12,13 +12,14 @@ use Rattle.mix_text.specs.Names.{AreNames}
 use Rattle.mix_text.specs.Pages.{printed}
 use Rattle.mix_text.specs.Reading.{◌>>=◌, bids_from, caps_from, goods_at, header_of, numbers_of, order_from, read_at, reading_of, row_at}
 use Rattle.mix_text.specs.Rows.{RestText, RowText, numbered, rows_of}
+use Rattle.mix_text.specs.SharedRows.{amounts_row, end_row, order_rows}
 use Rattle.mix_text.specs.declared.faults.Code.{Code}
 use Rattle.mix_text.specs.declared.faults.TextError.{TextError}
 use Rattle.mix_text.specs.declared.formats.Limits.{Limits}
 use Rattle.mix_text.proofs.Gathering.{Unlike, different_unlike}
 use Rattle.mix_text.proofs.ReadBack.{rows_of-printed}
 use Rattle.mix_text.proofs.Records.{length-numbered}
-use Rattle.mix_trial.specs.Printing.{amounts_row, auction_rows, bidder_rows, cap_rows, end_row, goods_row, head_row, order_rows}
+use Rattle.mix_trial.specs.Printing.{auction_rows, bidder_rows, cap_rows, goods_row, head_row}
 use Rattle.mix_trial.proofs.GatheredBids.{all_named, bids_of, gathered, names, names_same, rows_same, under_meets}
 use Rattle.mix_trial.proofs.PrintedAuctions.{auction_printable, each_name}
 use Rattle.mix_trial.proofs.ReadBids.{AreFew, bids_read}

@@ -12,10 +12,11 @@ use Rattle.mix_text.specs.Formats.{has_caps, has_order}
 use Rattle.mix_text.specs.Names.{AreNames}
 use Rattle.mix_text.specs.Reading.{cap_row_of, caps_from, ends_bids, is_cap_row}
 use Rattle.mix_text.specs.Rows.{numbered}
+use Rattle.mix_text.specs.SharedRows.{end_row, order_rows}
 use Rattle.mix_text.proofs.CapsRead.{cap_row_read}
 use Rattle.mix_text.proofs.NoCaps.{none_at}
 use Rattle.mix_text.proofs.OwnPlaces.{bidder_found}
-use Rattle.mix_trial.specs.Printing.{cap_row, cap_rows, end_row, order_rows}
+use Rattle.mix_trial.specs.Printing.{cap_row, cap_rows}
 use Rattle.mix_trial.proofs.ReadFields.{amount_read}
 use Rattle.mix_trial.proofs.ReadOrders.{tail}
 

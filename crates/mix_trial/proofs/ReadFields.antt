@@ -18,6 +18,7 @@ use Rattle.mix_bids.specs.Offers.{IsOffer}
 use Rattle.mix_bids.specs.declared.bid.Bid.{Bid}
 use Rattle.mix_text.specs.Formats.{IsFormat}
 use Rattle.mix_text.specs.Names.{is_among}
+use Rattle.mix_text.specs.SharedRows.{amounts_row}
 use Rattle.mix_text.specs.Spelling.{between, is_name, negative_of, spelled_number}
 use Rattle.mix_text.specs.Reading.{◌>>=◌, bid_of, bid_row_of, each_of, goods_row_of, header_of, names_after, number_in, numbers_of, value_of, weight_of}
 use Rattle.mix_text.specs.declared.faults.Code.{Code}
@@ -25,7 +26,7 @@ use Rattle.mix_text.proofs.Gathering.{Unlike, bytes_eq_refl, same_bytes}
 use Rattle.mix_text.proofs.PrintedNumbers.{number_printed}
 use Rattle.mix_text.proofs.SoundAuctions.{among_snoc, not_alike, turned}
 use Rattle.mix_text.proofs.Spellings.{between_ok, name_spelled}
-use Rattle.mix_trial.specs.Printing.{amounts_row, bid_row, goods_row, head_row, value_text}
+use Rattle.mix_trial.specs.Printing.{bid_row, goods_row, head_row, value_text}
 use Rattle.mix_trial.proofs.PrintedAuctions.{offer_fits}
 
 -- a step that goes well

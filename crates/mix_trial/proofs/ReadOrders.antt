@@ -11,8 +11,8 @@ use Rattle.mix_text.specs.Names.{AreNames}
 use Rattle.mix_text.specs.Orders.{IsTieOrder, is_served}
 use Rattle.mix_text.specs.Reading.{end_from, end_of, ends_bids, is_cap_row, order_from, order_row_of, served_after}
 use Rattle.mix_text.specs.Rows.{RowText, numbered}
+use Rattle.mix_text.specs.SharedRows.{end_row, order_row, order_rows}
 use Rattle.mix_text.proofs.OwnPlaces.{bidder_found}
-use Rattle.mix_trial.specs.Printing.{end_row, order_row, order_rows}
 
 -- different places, in a list after those seen
 abbrev AreApart : List ℕ → Type 0
@@ -43,12 +43,12 @@ served_read bidders seen (k ∷ order) names below apart =
 same_test : (n : ℕ) → (n == n) ≡ true
 same_test n = grind (arith, nat_tests)
 
-order_read : (bidders : Named) (order : List ℕ) → AreNames (map (λ bidder. bidder.0) bidders) → IsTieOrder (length bidders) order → order_row_of bidders (order_row bidders order) ≡ Ok order
+order_read : (bidders : Named) (order : List ℕ) → AreNames (map (λ bidder. bidder.0) bidders) → IsTieOrder (length bidders) order → order_row_of bidders (order_row (names_at bidders order)) ≡ Ok order
 unfolding order_row_of
 order_read bidders order names is =
     let size = is.size in
-    let fields : length (order_row bidders order) ≡ length bidders + 1 = omega (arith, size, length-map order (name_at bidders)) in
-    let count : (length (order_row bidders order) == length bidders + 1) ≡ true = ap (λ m. m == length bidders + 1) fields ∙ same_test (length bidders + 1) in
+    let fields : length (order_row (names_at bidders order)) ≡ length bidders + 1 = omega (arith, size, length-map order (name_at bidders)) in
+    let count : (length (order_row (names_at bidders order)) == length bidders + 1) ≡ true = ap (λ m. m == length bidders + 1) fields ∙ same_test (length bidders + 1) in
     let read = served_read bidders [] order names (λ i l. is.within i (omega (arith, l, size))) (λ i j h l e. (let same = is.once i j (omega (arith, h, l, size)) (omega (arith, l, size)) e in omega (arith, same, h))) in
     rw count read
 
@@ -64,7 +64,7 @@ pub record Tail (a : AuctionText) : Type 0 where
 
 pub tail : (a : AuctionText) → Tail a
 tail a = elim (cases_Bool (has_order a.format)) [
-  | inl t ↦ record { first = order_row a.bidders a.order; rest = end_row ∷ []; are = rw t refl; stops = rw t refl; no_cap = other_word (has_caps a.format) }
+  | inl t ↦ record { first = order_row (names_at a.bidders a.order); rest = end_row ∷ []; are = rw t refl; stops = rw t refl; no_cap = other_word (has_caps a.format) }
   | inr f ↦ record { first = end_row; rest = []; are = rw f refl; stops = refl; no_cap = other_word (has_caps a.format) }
 ]
   where

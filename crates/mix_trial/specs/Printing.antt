@@ -1,10 +1,10 @@
 -- The text of an auction, row by row, the bids of each bidder together.
-use Rattle.std.specs.Prelude.{ℕ, List, [], ◌∷◌, ◌++◌, ℤ, pos, Option, Some, None, map, codes, if◌then◌else◌}
+use Rattle.std.specs.Prelude.{ℕ, List, [], ◌∷◌, ◌++◌, ℤ, pos, Option, Some, None, map, codes}
 use Rattle.std.specs.Fmt.{signed_decimal}
 use Rattle.mix_bids.specs.declared.bid.Bid.{Bid}
 use Rattle.mix_text.specs.Auctions.{AuctionText}
-use Rattle.mix_text.specs.Bidders.{Named, names_at}
-use Rattle.mix_text.specs.Formats.{has_order}
+use Rattle.mix_text.specs.Bidders.{Named}
+use Rattle.mix_text.specs.SharedRows.{amounts_row, end_row, order_rows}
 
 -- the first row: `mix`, and the format
 abbrev pub head_row : ℕ → List (List ℕ)
@@ -13,10 +13,6 @@ head_row format = codes "mix" ∷ signed_decimal (pos format) ∷ []
 -- the row of the goods
 abbrev pub goods_row : List (List ℕ) → List (List ℕ)
 goods_row names = codes "goods" ∷ names
-
--- a row of a word and numbers
-abbrev pub amounts_row : List ℕ → List ℤ → List (List ℕ)
-amounts_row word amounts = word ∷ map signed_decimal amounts
 
 -- a value as it is written: `-` where the good is left out
 abbrev pub value_text : Option ℤ → List ℕ
@@ -46,18 +42,6 @@ abbrev pub cap_rows : Named → List (Option ℤ) → List (List (List ℕ))
 cap_rows [] caps = []
 cap_rows (bidder ∷ rest) [] = []
 cap_rows (bidder ∷ rest) (cap ∷ caps) = own_cap_rows bidder.0 cap ++ cap_rows rest caps
-
--- the row of the tie order: the names of the bidders in it
-abbrev pub order_row : Named → List ℕ → List (List ℕ)
-order_row bidders order = codes "order" ∷ names_at bidders order
-
--- this row, where the format may state the order
-abbrev pub order_rows : AuctionText → List (List (List ℕ))
-order_rows a = if has_order a.format then order_row a.bidders a.order ∷ [] else []
-
--- the last row
-abbrev pub end_row : List (List ℕ)
-end_row = codes "end" ∷ []
 
 -- all rows
 abbrev pub auction_rows : AuctionText → List (List (List ℕ))

@@ -7,9 +7,9 @@ ghost use Rattle.mix_text.specs.Reading.{reading_of};
 ghost use Rattle.mix_text.specs.Rows.{rows_of};
 ghost use Rattle.mix_trial.specs.Printing.{auction_rows};
 
-use crate::rows::{add_amounts, add_bidders, add_caps, add_end, add_goods, add_head, add_order};
+use crate::rows::{add_bidders, add_caps, add_goods, add_head};
 use mix_num::Memory;
-use mix_text::{Auction, Page};
+use mix_text::{Auction, Page, add_amounts, add_end, add_order};
 use std::alloc::Global;
 
 /// The text of an auction that keeps to the limits of its format, the bids of each bidder together: its rows, each with

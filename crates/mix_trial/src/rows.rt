@@ -1,15 +1,13 @@
 // The rows of an auction's text, one function for each kind.
 ghost use Rattle.std.specs.Prelude.{◌≡◌, ◌++◌, ◌∷◌, [], true, map, OnOk};
 ghost use Rattle.std.specs.List.{AllPass};
-ghost use Rattle.mix_text.specs.AuctionTexts.{auction_text};
-ghost use Rattle.mix_text.specs.Bidders.{names_at};
-ghost use Rattle.mix_text.specs.Pages.{is_printable, line_of, printed};
+ghost use Rattle.mix_text.specs.Pages.{line_of, printed};
 ghost use Rattle.mix_text.specs.Spelling.{is_name};
-ghost use Rattle.mix_trial.specs.Printing.{amounts_row, bid_row, bidder_rows, cap_rows, end_row, goods_row, head_row, order_rows, own_cap_rows, value_text};
+ghost use Rattle.mix_trial.specs.Printing.{bid_row, bidder_rows, cap_rows, goods_row, head_row, own_cap_rows, value_text};
 
 use mix_bids::Bid;
 use mix_num::Memory;
-use mix_text::{Auction, Name, Names, Page, has_order};
+use mix_text::{Auction, Name, Names, Page};
 
 /// Adds the first row, which names the format.
 pub fn add_head(page: &mut Page, format: u8) -> Result<(), Memory>
@@ -40,17 +38,6 @@ pub fn add_goods(page: &mut Page, names: &Names) -> Result<(), Memory>
 {
     page.text(b"goods")?;
     add_names(page, names)?;
-    page.end_row()
-}
-
-/// Adds a row of a word and numbers.
-pub fn add_amounts(page: &mut Page, word: &[u8], amounts: &[i64]) -> Result<(), Memory>
-    requires closed { page.old.fields ≡ [] }
-    requires word { is_printable word.now ≡ true }
-    ensures { OnOk result (page.new ≡ record { ended = page.old.ended ++ line_of (amounts_row word.now amounts.now); fields = [] }) }
-{
-    page.text(word)?;
-    page.numbers(amounts)?;
     page.end_row()
 }
 
@@ -139,38 +126,4 @@ pub fn add_caps(page: &mut Page, auction: &Auction) -> Result<(), Memory>
         add_cap(page, name, auction.cap(k))?;
     }
     Ok(())
-}
-
-// Adds the names of the bidders in tie order to the open row.
-#[tactic(auto, using(mix_text::proofs::AuctionNames::bidder_named, mix_text::proofs::AuctionNames::bidder_served))]
-fn add_served(page: &mut Page, auction: &Auction) -> Result<(), Memory>
-    ensures { OnOk result (page.new ≡ record page.old { fields = page.old.fields ++ names_at auction.now.bidders auction.now.order }) }
-{
-    for turn in 0..auction.order.count() {
-        let (name, _) = auction.bidder(auction.order.place(turn));
-        page.name(name)?;
-    }
-    Ok(())
-}
-
-/// Adds the row of the tie order, where the format may state it.
-pub fn add_order(page: &mut Page, auction: &Auction) -> Result<(), Memory>
-    requires { page.old.fields ≡ [] }
-    ensures { OnOk result (page.new ≡ record { ended = page.old.ended ++ printed (order_rows (auction_text auction.now)); fields = [] }) }
-{
-    if !has_order(auction.format) {
-        return Ok(());
-    }
-    page.text(b"order")?;
-    add_served(page, auction)?;
-    page.end_row()
-}
-
-/// Adds the last row.
-pub fn add_end(page: &mut Page) -> Result<(), Memory>
-    requires { page.old.fields ≡ [] }
-    ensures { OnOk result (page.new ≡ record { ended = page.old.ended ++ line_of end_row; fields = [] }) }
-{
-    page.text(b"end")?;
-    page.end_row()
 }

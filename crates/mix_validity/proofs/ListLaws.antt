@@ -1,5 +1,5 @@
 -- The indirect utilities of convex lists keep the laws of members, and their totals are small.
-use Rattle.std.proofs.Common.{ℕ, zero, suc, ◌*◌, ◌<◌, ◌≤◌, ℤ, pos, ◌≤ℤ◌, List, [], ◌∷◌, All, length, get_or, map, arith}
+use Rattle.std.proofs.Common.{ℕ, ◌*◌, ◌≤◌, ℤ, pos, ◌≤ℤ◌, List, [], ◌∷◌, length, arith}
 use Rattle.std.proofs.lemmas.Int.{ints}
 use Rattle.std.proofs.lemmas.List.Elements.{All-head, All-tail}
 use Rattle.mix_num.specs.Vectors.{Vector}
@@ -8,7 +8,7 @@ use Rattle.mix_bids.specs.Convexity.{IsConvexList}
 use Rattle.mix_bids.specs.declared.bid.Bid.{Bid}
 use Rattle.mix_bids.proofs.Lengths.{over_of}
 use Rattle.mix_law.specs.Members.{KeepsLaws}
-use Rattle.mix_validity.specs.Laws.{valid_convex}
+use Rattle.mix_validity.specs.Laws.{valid_l_natural}
 use Rattle.mix_validity.proofs.ConvexLists.{convex_exactly}
 
 -- the total of bids
@@ -28,21 +28,6 @@ pub list_keeps_laws : (n : ℕ) (bs : List Bid) → AreBids n bs → length bs �
 list_keeps_laws n bs are few convex =
     let most = total-most n bs are in
     record {
-      laws = record { total = total_weight bs; top = top_value bs; convex = valid_convex n bs are ((convex_exactly n bs (over_of n bs are)).0 convex) };
+      laws = record { total = total_weight bs; top = top_value bs; l_natural = valid_l_natural n bs are ((convex_exactly n bs (over_of n bs are)).0 convex) };
       small = omega (arith, ints, most, few);
     }
-
--- so do those of all bidders, each with a convex list
-pub lists_keep_laws : {A : Type 0} (n : ℕ) (bids : A → List Bid) (bidders : List A) → All (λ bidder. AreBids n (bids bidder)) bidders → All (λ bidder. length (bids bidder) ≤ 400) bidders
-    → All (λ bidder. IsConvexList (bids bidder)) bidders → (k : ℕ) → k < length (map (λ bidder. utility (bids bidder)) bidders) → KeepsSmallLaws n (get_or (map (λ bidder. utility (bids bidder)) bidders) k (λ x. pos 0))
-lists_keep_laws n bids [] are few convex k l = absurd (omega arith)
-lists_keep_laws {A} n bids (bidder ∷ bidders) are few convex zero l =
-    let P : A → Type 0 = λ one. AreBids n (bids one) in
-    let Q : A → Type 0 = λ one. length (bids one) ≤ 400 in
-    let R : A → Type 0 = λ one. IsConvexList (bids one) in
-    list_keeps_laws n (bids bidder) (All-head P bidder bidders are) (All-head Q bidder bidders few) (All-head R bidder bidders convex)
-lists_keep_laws {A} n bids (bidder ∷ bidders) are few convex (suc k) l =
-    let P : A → Type 0 = λ one. AreBids n (bids one) in
-    let Q : A → Type 0 = λ one. length (bids one) ≤ 400 in
-    let R : A → Type 0 = λ one. IsConvexList (bids one) in
-    lists_keep_laws n bids bidders (All-tail P bidder bidders are) (All-tail Q bidder bidders few) (All-tail R bidder bidders convex) k (omega arith)

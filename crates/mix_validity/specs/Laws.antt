@@ -15,7 +15,7 @@ use Rattle.mix_bids.proofs.Locals.{local_utility}
 use Rattle.mix_bids.proofs.Far.{utility_far, utility_none}
 use Rattle.mix_bids.proofs.Near.{utility_near}
 use Rattle.mix_facets.proofs.Conclusions.{facet_weight-swap}
-use Rattle.mix_law.specs.Members.{IsConvex, KeepsLocal, excess}
+use Rattle.mix_law.specs.Members.{IsLNatural, KeepsLocal, excess}
 use Rattle.mix_law.proofs.Lattice.{apart, more, over, over_is}
 use Rattle.mix_law.proofs.Ranges.{excess_covers, excess_nonnegative}
 
@@ -186,8 +186,8 @@ size_kept n bs are valid x null =
     (not_negative n bs are valid x m null high, omega (arith, ints))
 
 -- a list of bids no facet weight of which is negative keeps all laws
-pub valid_convex : (n : ℕ) (bs : List Bid) → AreBids n bs → NoneNegative n bs → IsConvex n (utility bs) (total_weight bs) (top_value bs)
-valid_convex n bs are valid = record {
+pub valid_l_natural : (n : ℕ) (bs : List Bid) → AreBids n bs → NoneNegative n bs → IsLNatural n (utility bs) (total_weight bs) (top_value bs)
+valid_l_natural n bs are valid = record {
   reads = λ x y a. utility_reads n bs x y (over_of n bs are) a;
   shift = utility_shifted bs;
   local = local_kept n bs (over_of n bs are) valid;

@@ -1,5 +1,8 @@
 // Why a list of bids is refused.
-use mix_num::Prices;
+ghost use Rattle.std.specs.Prelude.{◌≡◌};
+ghost use Rattle.mix_validity.specs.declared.refused.Refused.TheVariants.{Memory as wanting};
+
+use mix_num::{Memory, Prices};
 
 /// A facet of negative weight: at these prices the weights of the bids whose best set is exactly the two choices add up
 /// to less than 0. The choices are numbered as the goods, with 0 for the null choice.
@@ -21,4 +24,12 @@ pub struct NotValid {
 pub enum Refused {
     NotValid(NotValid),
     Memory,
+}
+
+impl From<Memory> for Refused {
+    ghost from_gives = { λ _ refused. refused ≡ wanting };
+
+    fn from(_: Memory) -> Refused {
+        Refused::Memory
+    }
 }

@@ -132,7 +132,7 @@ fn prices() -> Prices
 /// What a member over two goods answers at the prices 4 and 0: its goods and its total, the tops, the value, the fall
 /// and the rise of both goods, the rise of the first one, and the reach.
 fn answers<D: Convex>(member: &D) -> [i64; 9]
-    requires { D.size member.now ≡ 2 }
+    requires { D.goods member.now ≡ 2 }
 {
     let prices = prices();
     let goods = Set::from_bits(6);
@@ -151,7 +151,7 @@ fn answers<D: Convex>(member: &D) -> [i64; 9]
 
 /// The fall and the gain of each set of the null choice and two goods at the prices 4 and 0, read from the tables of all sets.
 fn swept<D: Convex>(member: &D) -> [(i64, i64); 8]
-    requires { D.size member.now ≡ 2 }
+    requires { D.goods member.now ≡ 2 }
 {
     let prices = prices();
     let _total = member.total();
@@ -171,10 +171,7 @@ fn swept<D: Convex>(member: &D) -> [(i64, i64); 8]
 fn member(alloc: Global) -> Result<ValidList, Refused>
     ensures { IfOk result (λ valid. (book_of valid).goods ≡ 2) }
 {
-    match valid(alloc) {
-        Ok(list) => validate(alloc, list),
-        Err(Memory) => Err(Refused::Memory),
-    }
+    validate(alloc, valid(alloc)?)
 }
 
 /// Two valid lists over two goods as one member.

@@ -47,19 +47,19 @@ impl ValidList {
 impl Convex for ValidList {
     ghost use Rattle.mix_bids.specs.Bids.{top_value, total_weight, utility};
     ghost use Rattle.mix_bids.specs.Reaches.{reach_of};
-    ghost use Rattle.mix_validity.specs.Laws.{valid_convex};
+    ghost use Rattle.mix_validity.specs.Laws.{valid_l_natural};
 
-    ghost size = { λ valid. valid.list.goods };
+    ghost goods = { λ valid. valid.list.goods };
 
-    ghost weight = { λ valid. total_weight valid.list.bids };
+    ghost total = { λ valid. total_weight valid.list.bids };
 
-    ghost ceiling = { λ valid. top_value valid.list.bids };
+    ghost top = { λ valid. top_value valid.list.bids };
 
     ghost function = { λ valid. utility valid.list.bids };
 
-    ghost span = { λ valid x s. reach_of valid.list.goods s valid.list.bids x };
+    ghost reach = { λ valid x s. reach_of valid.list.goods s valid.list.bids x };
 
-    ghost convex = { λ valid. valid_convex valid.list.goods valid.list.bids valid.proper valid.valid };
+    ghost l_natural = { λ valid. valid_l_natural valid.list.goods valid.list.bids valid.proper valid.valid };
 
     fn goods(&self) -> usize {
         self.list.goods()

@@ -2,7 +2,7 @@
 ghost use Rattle.std.specs.Prelude.{◌≡◌, ◌<◌, ◌≤◌, pos, ◌≤ℤ◌, IfErr, IfOk, MatchOption};
 ghost use Rattle.mix_bids.specs.Bids.{facet_weight, NoneNegative};
 ghost use Rattle.mix_bids.specs.Convexity.{IsConvexList};
-ghost use Rattle.mix_facets.specs.Planes.{IsLevelOf};
+ghost use Rattle.mix_facets.specs.Levels.{IsLevelOf};
 ghost use Rattle.mix_facets.specs.Points.{prices_at, IsPoint};
 ghost use Rattle.mix_validity.specs.Refusals.{HasFacet, ShowsNotConvex};
 ghost use Rattle.mix_validity.specs.Searches.{IsClear, IsClearAt, IsClearFrom};
@@ -26,10 +26,7 @@ pub fn validate(alloc: Global, list: BidList) -> Result<ValidList, Refused>
     ensures refused { IfErr result (ShowsNotConvex list) }
 {
     convex_where_none_negative(&list);
-    let Ok(found) = refusal_of(alloc, &list) else {
-        return Err(Refused::Memory);
-    };
-    match found {
+    match refusal_of(alloc, &list)? {
         Some(facet) => Err(Refused::NotValid(facet)),
         None => Ok(ValidList::new(list)),
     }

@@ -1,6 +1,6 @@
 use Rattle.std.proofs.Common.{ℕ, ◌<◌, length}
 use Rattle.mix_law.specs.Demands.{IsDemanded}
-use Rattle.mix_clearing.specs.Clearings.{bidder_utility}
+use Rattle.mix_law.specs.Clearings.{bidder_utility}
 use Rattle.mix_text.specs.AuctionTexts.{auction_text}
 use Rattle.mix_answer.specs.Utilities.{utilities_of}
 use Rattle.mix_check.specs.Reasons.{bundle_of}

@@ -10,7 +10,7 @@ use Rattle.mix_check.specs.Reasons.{FallsFreely}
 use Rattle.mix_check.proofs.FreeFalls.{above-choices, even-set, falls_freely, rises, set-of_goods}
 use Rattle.mix_check.proofs.FirstReasons.{fall_first}
 use Rattle.mix_check.proofs.falls.none_lower.Goals as goal
-use Rattle.mix_check.proofs.falls.none_lower.Goals.{else-can_fall-via-then-can_fall+else-at-sum_over, else-can_fall-via-else-can_fall}
+use Rattle.mix_check.proofs.falls.none_lower.Goals.{else-are_above-via-then-are_above+else-at-sum_over, else-are_above-via-else-are_above}
 
 pub returns-then-at-sum_over-clause-reason : goal.returns-then-at-sum_over-clause-reason
 returns-then-at-sum_over-clause-reason c =
@@ -24,7 +24,7 @@ returns-then-at-sum_over-clause-reason c =
       goods = goods;
       some = omega (arith, even);
       above = above-choices (length c.args.auction.now.goods) set c.args.auction.now.reserve.items c.args.answer.now.prices.items goods.1
-          (λ k h m. c.can_fall.ensures.0 c.if-can_fall.true k (omega (arith, h, size)) m);
+          (λ k h m. c.are_above.ensures.0 c.if-are_above.true k (omega (arith, h, size)) m);
     } in
     let a = c.at.ensures in
     let s = c.sum_over.ensures in
@@ -40,13 +40,13 @@ loop-goods-preserved c = λ s h falls. ⊎_elim
     let same : s ≡ c.from_bits-set.result = even-set s falls.can_fall.goods.1 c.loop-goods.goods q h ∙ sym c.from_bits-set.ensures in
     let here = subst (λ (v : ℕ). FallsFreely (length c.args.auction.now.goods) (lyapunov (utilities_of (auction_text c.args.auction.now)) c.args.auction.now.supply.items) (with_null c.args.auction.now.reserve.items) (with_null c.args.answer.now.prices.items) v) same falls in
     let size = c.requires.shape.prices.0 in
-    elim c.else-can_fall.branch [
-      | else-can_fall-via-then-can_fall+else-at-sum_over w ↦
+    elim c.else-are_above.branch [
+      | else-are_above-via-then-are_above+else-at-sum_over w ↦
           let a = w.at.ensures in
           let t = w.sum_over.ensures in
           let high = w.if-at-sum_over.false in
           rises (auction_text c.args.auction.now) c.args.answer.now.prices.items c.args.tables.now c.requires.tables c.from_bits-set.result here.can_fall.goods (omega (arith, ints, a.value, a.range, t.value, t.range, high)) here
-      | else-can_fall-via-else-can_fall w ↦
-          absurd (false≢true (sym w.if-can_fall.false ∙ c.can_fall.ensures.1 (λ k l m. here.can_fall.above (suc k) (omega (arith, l, size)) m)))
+      | else-are_above-via-else-are_above w ↦
+          absurd (false≢true (sym w.if-are_above.false ∙ c.are_above.ensures.1 (λ k l m. here.can_fall.above (suc k) (omega (arith, l, size)) m)))
     ])
     (cases_lt s (2 * c.loop-goods.goods))

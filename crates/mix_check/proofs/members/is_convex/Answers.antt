@@ -1,6 +1,6 @@
 use Rattle.std.proofs.Common.{sym, ◌∙◌}
 use Rattle.mix_text.specs.AuctionTexts.{auction_text}
-use Rattle.mix_answer.proofs.Entrants.{capped_entrant}
+use Rattle.mix_check.proofs.EitherKind.{capped_entrant}
 use Rattle.mix_check.proofs.members.is_convex.Goals as goal
 
 pub returns-in-Some : goal.returns-in-Some

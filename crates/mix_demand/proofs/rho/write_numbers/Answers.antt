@@ -9,12 +9,12 @@ use Rattle.mix_demand.proofs.rho.write_numbers.Goals as goal
 -- the table of zeros takes what the member gains
 pub gains-requires-clause-range : goal.gains-requires-clause-range
 gains-requires-clause-range g c = λ set h.
-    gains_fit (let n = c.goods.ensures in omega arith) (g.D.Convex.convex c.args.member.now) (omega (arith, ints, c.total-total.ensures.value, c.total-total.ensures.range)) c.new-gains.result c.new-gains.ensures
+    gains_fit (let n = c.goods.ensures in omega arith) (g.D.Convex.l_natural c.args.member.now) (omega (arith, ints, c.total-total.ensures.value, c.total-total.ensures.range)) c.new-gains.result c.new-gains.ensures
     (with_null c.args.prices.now.items) set
 
 pub loop-bits-preserved : goal.loop-bits-preserved
 loop-bits-preserved g c =
-    let n : ℕ = g.D.Convex.size c.args.member.now in
+    let n : ℕ = g.D.Convex.goods c.args.member.now in
     let m : ℕ = c.loop-bits.bits in
     let same : 2 ^ (c.goods.result + 1) ≡ 2 ^ suc n = ap (λ (k : ℕ). 2 ^ k) (let v = c.goods.ensures.value in let e : c.goods.result + 1 ≡ suc n = omega arith in e) in
     let last : c.bits-whole.result ≡ 2 ^ (c.goods.result + 1) - 1 = c.bits-whole.ensures.value ∙ c.whole.ensures in
@@ -30,18 +30,18 @@ loop-bits-preserved g c =
 pub returns-clause-table : goal.returns-clause-table
 returns-clause-table g c =
     let n = c.goods.ensures.value in
-    let last : c.bits-whole.result ≡ whole (g.D.Convex.size c.args.member.now) =
-    c.bits-whole.ensures.value ∙ c.whole.ensures ∙ ap (λ (k : ℕ). 2 ^ k - 1) (let e : c.goods.result + 1 ≡ suc (g.D.Convex.size c.args.member.now) = omega arith in e) in
-    let total : to_z w64 (of_z w64 c.total-total.result) ≡ g.D.Convex.weight c.args.member.now = omega (arith, ints, c.total-total.ensures.value, c.total-total.ensures.range) in
-    table-written (g.D.Convex.convex c.args.member.now) c.args.prices.now.items c.loop-bits.numbers c.bits-whole.result (to_z w64 (of_z w64 c.total-total.result))
+    let last : c.bits-whole.result ≡ whole (g.D.Convex.goods c.args.member.now) =
+    c.bits-whole.ensures.value ∙ c.whole.ensures ∙ ap (λ (k : ℕ). 2 ^ k - 1) (let e : c.goods.result + 1 ≡ suc (g.D.Convex.goods c.args.member.now) = omega arith in e) in
+    let total : to_z w64 (of_z w64 c.total-total.result) ≡ g.D.Convex.total c.args.member.now = omega (arith, ints, c.total-total.ensures.value, c.total-total.ensures.range) in
+    table-written (g.D.Convex.l_natural c.args.member.now) c.args.prices.now.items c.loop-bits.numbers c.bits-whole.result (to_z w64 (of_z w64 c.total-total.result))
     (c.loop-bits.auto.numbers ∙ c.requires.goods) last (λ a h. c.loop-bits.invariant a (omega arith)) total
 
 pub returns-clause-proper : goal.returns-clause-proper
 returns-clause-proper g c =
-    table-proper (g.D.Convex.convex c.args.member.now) (let n = c.goods.ensures in omega arith) c.args.prices.now.items _
+    table-proper (g.D.Convex.l_natural c.args.member.now) (let n = c.goods.ensures in omega arith) c.args.prices.now.items _
     (omega (arith, ints, c.total-total.ensures.value, c.total-total.ensures.range)) (returns-clause-table g c)
 
 pub returns-clause-range : goal.returns-clause-range
 returns-clause-range g c =
-    table-lies (g.D.Convex.convex c.args.member.now) c.args.prices.now.items _
+    table-lies (g.D.Convex.l_natural c.args.member.now) c.args.prices.now.items _
     (omega (arith, ints, c.total-total.ensures.value, c.total-total.ensures.range)) (let n = c.goods.ensures in omega arith) (returns-clause-table g c)

@@ -6,9 +6,9 @@ use Rattle.mix_market.specs.Markets.{lyapunov_of, goods_of}
 use Rattle.mix_market.specs.Steepest.{slope_of, IsMinimalSteepest}
 use Rattle.mix_market.proofs.MarketLaws.{slope-none}
 use Rattle.mix_market.proofs.MarketFacts.{market_keeps}
-use Rattle.mix_market.proofs.Bounds.{least_below_tops}
+use Rattle.mix_step.proofs.Bounds.{least_below_tops}
 use Rattle.mix_step.proofs.FirstSteepest.{least_of_slopes, no_slope}
-use Rattle.mix_market.proofs.Climbs.{start_best, end_least}
+use Rattle.mix_step.proofs.Climbs.{start_best, end_least}
 use Rattle.mix_descent.proofs.Landings.{long_smaller}
 use Rattle.mix_descent.proofs.TrailFacts.{climbed_none, climbed_more, long_best}
 use Rattle.mix_descent.proofs.descent.descend.Goals as goal

@@ -2,8 +2,8 @@ use Rattle.mix_num.specs.Vectors.{with_null}
 use Rattle.mix_num.specs.Ranges.{AreWithin}
 use Rattle.mix_market.specs.Markets.{goods_of, lyapunov_of}
 use Rattle.mix_market.specs.Steepest.{AreSlopes}
-use Rattle.mix_market.proofs.Climbs.{IsBestBelow}
-use Rattle.mix_market.proofs.Rooms.{room}
+use Rattle.mix_step.proofs.Climbs.{IsBestBelow}
+use Rattle.mix_step.proofs.Rooms.{room}
 use Rattle.mix_descent.proofs.TrailFacts.{HasClimbed}
 use Rattle.mix_descent.proofs.descent.descend.Given as goal
 

@@ -7,7 +7,7 @@ use Rattle.mix_market.specs.Markets.{goods_of, lyapunov_of}
 use Rattle.mix_market.proofs.MarketFacts.{market_keeps}
 use Rattle.mix_descent.specs.Trails.{IsLongStep}
 use Rattle.mix_descent.proofs.Stretches.{way_start, way_reach, way_on, way_end, way_after, less_left, low_from, far_at_most}
-use Rattle.mix_market.proofs.LongMoves.{moved_within, may_rise, may_move, room_of}
+use Rattle.mix_step.proofs.LongMoves.{moved_within, may_rise, may_move, room_of}
 use Rattle.mix_descent.proofs.long_step.long_step.Goals as goal
 
 pub loop-step-init : goal.loop-step-init

@@ -9,7 +9,7 @@ use Rattle.mix_market.proofs.MarketFacts.{market_keeps, reserves_within}
 use Rattle.mix_descent.specs.Trails.{AreLongSteps}
 use Rattle.mix_descent.specs.declared.long_step.LongStep.{LongStep}
 use Rattle.mix_step.proofs.FirstSteepest.{least_of_slopes, no_slope}
-use Rattle.mix_market.proofs.Climbs.{start_best, end_least}
+use Rattle.mix_step.proofs.Climbs.{start_best, end_least}
 use Rattle.mix_descent.proofs.Landings.{long_smaller}
 use Rattle.mix_descent.proofs.TrailFacts.{no_steps, one_more, long_best}
 use Rattle.mix_descent.proofs.trails.from_reserves.Goals as goal

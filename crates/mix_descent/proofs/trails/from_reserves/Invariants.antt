@@ -3,8 +3,8 @@ use Rattle.mix_num.specs.Ranges.{AreWithin}
 use Rattle.mix_market.specs.Markets.{goods_of, lyapunov_of, reserves_of}
 use Rattle.mix_descent.specs.Trails.{AreLongSteps}
 use Rattle.mix_market.specs.Steepest.{AreSlopes}
-use Rattle.mix_market.proofs.Climbs.{IsBestBelow}
-use Rattle.mix_market.proofs.Rooms.{room}
+use Rattle.mix_step.proofs.Climbs.{IsBestBelow}
+use Rattle.mix_step.proofs.Rooms.{room}
 use Rattle.mix_descent.proofs.trails.from_reserves.Given as goal
 
 abbrev pub invariant-loop-slopes : goal.invariant-loop-slopes

@@ -1,5 +1,5 @@
 use Rattle.std.proofs.Common.{◌≡◌, ◌≤◌, length, take, All}
-use Rattle.mix_facets.specs.Planes.{bids_of}
+use Rattle.mix_facets.specs.Levels.{bids_of}
 use Rattle.mix_facets.specs.Points.{IsCoordinate, IsNullCoordinate}
 use Rattle.mix_facets.specs.Candidates.{counting_from}
 use Rattle.mix_facets.proofs.Steps.{AreImages}

@@ -1,6 +1,6 @@
 use Rattle.std.proofs.Common.{◌≡◌, ℤ, Some, None, drop}
 use Rattle.mix_num.specs.Ranges.{Lies}
-use Rattle.mix_facets.specs.Planes.{bids_of}
+use Rattle.mix_facets.specs.Levels.{bids_of}
 use Rattle.mix_facets.specs.Candidates.{least_lead}
 use Rattle.mix_facets.proofs.candidates.lowest.Given as goal
 

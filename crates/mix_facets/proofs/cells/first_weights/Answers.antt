@@ -1,7 +1,7 @@
 use Rattle.std.proofs.Common.{◌≡◌, ℕ, ◌<◌, ◌++◌, cond, refl, pos, arith, ap, ◌∙◌, length, get_or, take, drop}
 use Rattle.std.proofs.lemmas.Int.{ints}
 use Rattle.mix_bids.specs.declared.bid.Bid.{Bid}
-use Rattle.mix_facets.specs.Planes.{bids_of}
+use Rattle.mix_facets.specs.Levels.{bids_of}
 use Rattle.mix_facets.specs.Grids.{size_of}
 use Rattle.mix_facets.specs.Cells.{holds, leads, weight_held}
 use Rattle.mix_facets.proofs.Weighing.{weight_step}

@@ -1,5 +1,5 @@
 use Rattle.std.proofs.Common.{◌≡◌, ℕ, ◌*◌, ◌<◌, pos, neg_ℤ, ◌+ℤ◌, ◌≤ℤ◌, get_or, length, drop}
-use Rattle.mix_facets.specs.Planes.{bids_of}
+use Rattle.mix_facets.specs.Levels.{bids_of}
 use Rattle.mix_facets.specs.Grids.{size_of}
 use Rattle.mix_facets.specs.Cells.{weight_held}
 use Rattle.mix_facets.proofs.cells.first_weights.Given as goal

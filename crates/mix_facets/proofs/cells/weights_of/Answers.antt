@@ -7,7 +7,7 @@ use Rattle.mix_bids.specs.Bids.{AreBids, IsBid}
 use Rattle.mix_bids.proofs.Lengths.{over_of}
 use Rattle.mix_facets.specs.Grids.{size_of, IsRising}
 use Rattle.mix_bids.specs.Levels.{has_lead}
-use Rattle.mix_facets.specs.Planes.{bids_of}
+use Rattle.mix_facets.specs.Levels.{bids_of}
 use Rattle.mix_facets.specs.Cells.{holds, leads, weight_held, AreSums}
 use Rattle.mix_facets.proofs.CellSums.{held_sums}
 use Rattle.mix_facets.proofs.CellTurns.{written_over, weight_lies}

@@ -15,7 +15,7 @@ loop-coordinate-preserved c =
     let i = c.loop-coordinate.invariant in
     let v = c.level.view_is in
     let l = c.args.level.now in
-    let e : c.push.new.self.items ≡ xs ++ us ∷ [] = c.in-Ok.ensures.items in
+    let e : c.push.new.self.items ≡ xs ++ us ∷ [] = c.in_ok-push.ensures.items in
     let p = λ (k : ℕ) (z : List ℤ). AreCandidates c.args.list.now l (other l.first l.second k) z in
     let f = c.other-choice.ensures.value ∙ ap₂ (λ a b. other a b c.loop-coordinate.coordinate) (ap (λ z. z.first) v) (ap (λ z. z.second) v) in
     record {

@@ -1,6 +1,6 @@
 use Rattle.std.proofs.Common.{◌≡◌, ◌++◌, drop}
 use Rattle.mix_bids.specs.Levels.{has_lead}
-use Rattle.mix_facets.specs.Planes.{places as places_where}
+use Rattle.mix_facets.specs.Levels.{places as places_where}
 use Rattle.mix_facets.proofs.level.places_of.Given as goal
 
 abbrev pub invariant-loop-place : goal.invariant-loop-place

@@ -1,6 +1,6 @@
 use Rattle.std.proofs.Common.{◌≡◌, arith, ap, ◌∙◌, map, take}
 use Rattle.std.proofs.lemmas.List.{take_all}
-use Rattle.mix_facets.specs.Planes.{level_at, AreLevelsOf}
+use Rattle.mix_facets.specs.Levels.{level_at, AreLevelsOf}
 use Rattle.mix_facets.proofs.LevelLists.{levels_at, levels_negative}
 use Rattle.mix_facets.proofs.levels.levels_of.Goals as goal
 use Rattle.mix_facets.proofs.levels.levels_of.Goals.{After-drop-differences-inside-2}

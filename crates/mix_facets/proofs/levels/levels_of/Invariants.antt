@@ -1,5 +1,5 @@
 use Rattle.std.proofs.Common.{◌≡◌, map, take}
-use Rattle.mix_facets.specs.Planes.{level_at}
+use Rattle.mix_facets.specs.Levels.{level_at}
 use Rattle.mix_facets.proofs.levels.levels_of.Given as goal
 
 abbrev pub invariant-loop-place : goal.invariant-loop-place

@@ -2,7 +2,7 @@ use Rattle.std.proofs.Common.{◌≡◌, ◌+ℤ◌, arith, sym, ap, ◌∙◌, 
 use Rattle.std.proofs.lemmas.Int.{ints}
 use Rattle.mix_bids.specs.Bids.{weight_where}
 use Rattle.mix_bids.proofs.Lengths.{over_of}
-use Rattle.mix_facets.specs.Planes.{bids_of}
+use Rattle.mix_facets.specs.Levels.{bids_of}
 use Rattle.mix_facets.specs.Points.{coordinate}
 use Rattle.mix_facets.specs.Counted.{is_counted}
 use Rattle.mix_facets.proofs.Weighing.{weight_step, weight_end}

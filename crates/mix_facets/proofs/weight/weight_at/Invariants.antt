@@ -1,5 +1,5 @@
 use Rattle.std.proofs.Common.{◌≡◌, ◌*◌, drop, pos, neg_ℤ, ◌+ℤ◌, ◌≤ℤ◌}
-use Rattle.mix_facets.specs.Planes.{bids_of}
+use Rattle.mix_facets.specs.Levels.{bids_of}
 use Rattle.mix_facets.specs.Points.{coordinate}
 use Rattle.mix_facets.specs.Counted.{weight_counted}
 use Rattle.mix_facets.proofs.weight.weight_at.Given as goal

@@ -7,7 +7,7 @@ use Rattle.mix_market.specs.LargestFalls.{MayFall, Tries}
 use Rattle.mix_market.specs.Markets.{goods_of, lyapunov_of}
 use Rattle.mix_market.specs.Steepest.{slope_down}
 use Rattle.mix_market.proofs.GoodsSets.{count_goods, even_goods}
-use Rattle.mix_market.proofs.LargestSets.{IsLast, last_none, last_next, last_fall, one_fall, empty_may_fall, slope_down-none, set_before}
+use Rattle.mix_step.proofs.LargestSets.{IsLast, last_none, last_next, last_fall, one_fall, empty_may_fall, slope_down-none, set_before}
 use Rattle.mix_market.proofs.MarketFacts.{market_keeps}
 use Rattle.mix_fall.proofs.largest.largest_fall.Goals as goal
 

@@ -6,10 +6,10 @@ use Rattle.mix_market.specs.Markets.{goods_of, lyapunov_of}
 use Rattle.mix_market.specs.Gaps.{greatest_gap}
 use Rattle.mix_market.specs.Lyapunov.{IsBelow}
 use Rattle.mix_market.proofs.MarketFacts.{market_keeps}
-use Rattle.mix_market.proofs.Rooms.{some_good, not_empty, nothing_in}
-use Rattle.mix_market.proofs.Units.{widened}
-use Rattle.mix_market.proofs.Gaps.{gap_covers}
-use Rattle.mix_market.proofs.LargestFalls.{fall_ends, same_above}
+use Rattle.mix_step.proofs.Rooms.{some_good, not_empty, nothing_in}
+use Rattle.mix_step.proofs.Units.{widened}
+use Rattle.mix_step.proofs.Gaps.{gap_covers}
+use Rattle.mix_step.proofs.LargestFalls.{fall_ends, same_above}
 use Rattle.mix_fall.specs.LongFalls.{IsLongFall}
 use Rattle.mix_fall.proofs.LongFalls.{fallen_within, long_above, long_counts, long_depth, may_fall}
 use Rattle.mix_fall.proofs.settling.fall.Goals as goal

@@ -6,7 +6,7 @@ use Rattle.mix_market.specs.Gaps.{greatest_gap}
 use Rattle.mix_market.specs.Lyapunov.{IsBelow, IsLeastPoint}
 use Rattle.mix_market.specs.Markets.{goods_of, lyapunov_of}
 use Rattle.mix_market.specs.LargestFalls.{IsLeastAbove}
-use Rattle.mix_market.proofs.Rooms.{depth}
+use Rattle.mix_step.proofs.Rooms.{depth}
 use Rattle.mix_fall.proofs.settling.fall.Given as goal
 
 abbrev pub invariant-loop-step : goal.invariant-loop-step

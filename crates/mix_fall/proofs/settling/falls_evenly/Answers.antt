@@ -5,7 +5,7 @@ use Rattle.mix_num.specs.Moves.{lowered}
 use Rattle.mix_market.specs.Lyapunov.{IsBelow}
 use Rattle.mix_market.specs.Markets.{goods_of, lyapunov_of}
 use Rattle.mix_market.proofs.MarketFacts.{market_keeps}
-use Rattle.mix_market.proofs.LongRises.{IsLinear}
+use Rattle.mix_step.proofs.LongRises.{IsLinear}
 use Rattle.mix_fall.specs.LongFalls.{IsLongFall}
 use Rattle.mix_fall.proofs.LongFalls.{even_fall, fallen_above, fallen_room}
 use Rattle.mix_fall.proofs.settling.falls_evenly.Goals as goal

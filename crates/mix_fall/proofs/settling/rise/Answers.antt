@@ -8,12 +8,12 @@ use Rattle.mix_market.specs.Steepest.{slope_of}
 use Rattle.mix_market.specs.Gaps.{greatest_gap}
 use Rattle.mix_market.proofs.MarketLaws.{slope-none}
 use Rattle.mix_market.proofs.MarketFacts.{market_keeps}
-use Rattle.mix_market.proofs.Climbs.{start_best, best_same, end_least}
-use Rattle.mix_market.proofs.Rooms.{some_good, not_empty}
-use Rattle.mix_market.proofs.Bounds.{rises_low}
-use Rattle.mix_market.proofs.LongMoves.{far_low, may_move, may_rise, moved_within, room_of}
-use Rattle.mix_market.proofs.Gaps.{gap_covers}
-use Rattle.mix_market.proofs.LongRises.{IsLinear, far_best, far_counts, far_room}
+use Rattle.mix_step.proofs.Climbs.{start_best, best_same, end_least}
+use Rattle.mix_step.proofs.Rooms.{some_good, not_empty}
+use Rattle.mix_step.proofs.Bounds.{rises_low}
+use Rattle.mix_step.proofs.LongMoves.{far_low, may_move, may_rise, moved_within, room_of}
+use Rattle.mix_step.proofs.Gaps.{gap_covers}
+use Rattle.mix_step.proofs.LongRises.{IsLinear, far_best, far_counts, far_room}
 use Rattle.mix_fall.proofs.settling.rise.Goals as goal
 
 pub loop-step-init : goal.loop-step-init

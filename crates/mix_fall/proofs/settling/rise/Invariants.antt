@@ -5,8 +5,8 @@ use Rattle.mix_law.proofs.Exchanges.{AtMost}
 use Rattle.mix_market.specs.Gaps.{greatest_gap}
 use Rattle.mix_market.specs.Lyapunov.{IsLeastPoint}
 use Rattle.mix_market.specs.Markets.{goods_of, lyapunov_of}
-use Rattle.mix_market.proofs.Climbs.{IsBestBelow}
-use Rattle.mix_market.proofs.Rooms.{room}
+use Rattle.mix_step.proofs.Climbs.{IsBestBelow}
+use Rattle.mix_step.proofs.Rooms.{room}
 use Rattle.mix_fall.proofs.settling.rise.Given as goal
 
 abbrev pub invariant-loop-step : goal.invariant-loop-step

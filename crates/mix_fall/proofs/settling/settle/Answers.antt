@@ -3,8 +3,8 @@ use Rattle.std.proofs.lemmas.Int.{ints}
 use Rattle.mix_num.specs.Vectors.{with_null}
 use Rattle.mix_market.specs.Markets.{lyapunov_of, goods_of}
 use Rattle.mix_market.specs.Gaps.{greatest_gap}
-use Rattle.mix_market.proofs.Gaps.{gap_least, gap_covers}
-use Rattle.mix_market.proofs.Rises.{same_point}
+use Rattle.mix_step.proofs.Gaps.{gap_least, gap_covers}
+use Rattle.mix_step.proofs.Rises.{same_point}
 use Rattle.mix_fall.proofs.settling.settle.Goals as goal
 
 pub returns-clause-cost : goal.returns-clause-cost

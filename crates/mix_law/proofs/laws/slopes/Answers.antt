@@ -3,4 +3,4 @@ use Rattle.mix_law.proofs.Midpoint.{rising}
 use Rattle.mix_law.proofs.laws.slopes.Goals as goal
 
 pub returns : goal.returns
-returns g c = rising (keeps_local (g.D.Convex.convex c.args.member.now))
+returns g c = rising (keeps_local (g.D.Convex.l_natural c.args.member.now))

@@ -30,7 +30,7 @@ pub add_falls-requires-clause-some : goal.add_falls-requires-clause-some
 add_falls-requires-clause-some g c =
     let n = length c.args.prices.now.items in
     let y = c.buyer-item.result in
-    let same : g.D.Convex.size y ≡ n = one_of (λ member. g.D.Convex.size member ≡ n) c.args.buyers.now c.loop-buyer.buyer-index y c.requires.buyers.same_goods c.loop-buyer-test.true c.buyer-item.is in
+    let same : g.D.Convex.goods y ≡ n = one_of (λ member. g.D.Convex.goods member ≡ n) c.args.buyers.now c.loop-buyer.buyer-index y c.requires.buyers.same_goods c.loop-buyer-test.true c.buyer-item.is in
     let some = c.requires.some in
     omega arith
 
@@ -38,7 +38,7 @@ pub add_falls-requires-clause-prices : goal.add_falls-requires-clause-prices
 add_falls-requires-clause-prices g c =
     let n = length c.args.prices.now.items in
     let y = c.buyer-item.result in
-    let same : g.D.Convex.size y ≡ n = one_of (λ member. g.D.Convex.size member ≡ n) c.args.buyers.now c.loop-buyer.buyer-index y c.requires.buyers.same_goods c.loop-buyer-test.true c.buyer-item.is in
+    let same : g.D.Convex.goods y ≡ n = one_of (λ member. g.D.Convex.goods member ≡ n) c.args.buyers.now c.loop-buyer.buyer-index y c.requires.buyers.same_goods c.loop-buyer-test.true c.buyer-item.is in
     subst (λ (m : ℕ). HaveRoom m c.args.prices.now.items) (sym same) c.requires.prices
 
 pub add_falls-requires-clause-range : goal.add_falls-requires-clause-range
@@ -46,11 +46,11 @@ add_falls-requires-clause-range g c = λ set h.
     let n = length c.args.prices.now.items in
     let y = c.buyer-item.result in
     let x = with_null c.args.prices.now.items in
-    let same : g.D.Convex.size y ≡ n = one_of (λ member. g.D.Convex.size member ≡ n) c.args.buyers.now c.loop-buyer.buyer-index y c.requires.buyers.same_goods c.loop-buyer-test.true c.buyer-item.is in
+    let same : g.D.Convex.goods y ≡ n = one_of (λ member. g.D.Convex.goods member ≡ n) c.args.buyers.now c.loop-buyer.buyer-index y c.requires.buyers.same_goods c.loop-buyer-test.true c.buyer-item.is in
     let some = c.requires.some in
     let few = c.requires.buyers.few in
     let total = total_at c.requires.buyers c.loop-buyer.buyer-index y c.loop-buyer-test.true c.buyer-item.is in
-    sum_lies (number_of c.loop-buyer.falls set) (fall_of (g.D.Convex.function y) x (members set)) (g.D.Convex.weight y) c.loop-buyer.buyer-index (omega arith) (c.loop-buyer.invariant.low set) (c.loop-buyer.invariant.high set) (fall_range (omega arith) (g.D.Convex.convex y) x (members set)) total.1
+    sum_lies (number_of c.loop-buyer.falls set) (fall_of (g.D.Convex.function y) x (members set)) (g.D.Convex.total y) c.loop-buyer.buyer-index (omega arith) (c.loop-buyer.invariant.low set) (c.loop-buyer.invariant.high set) (fall_range (omega arith) (g.D.Convex.l_natural y) x (members set)) total.1
 
 pub add_falls-requires-clause-small : goal.add_falls-requires-clause-small
 add_falls-requires-clause-small g c = let few = c.requires.buyers.few in let h = c.loop-buyer-test.true in let s = c.loop-buyer.invariant.small in omega (arith, ints)
@@ -61,7 +61,7 @@ loop-buyer-preserved g c =
     let y = c.buyer-item.result in
     let x = with_null c.args.prices.now.items in
     let i = c.loop-buyer.buyer-index in
-    let same : g.D.Convex.size y ≡ n = one_of (λ member. g.D.Convex.size member ≡ n) c.args.buyers.now i y c.requires.buyers.same_goods c.loop-buyer-test.true c.buyer-item.is in
+    let same : g.D.Convex.goods y ≡ n = one_of (λ member. g.D.Convex.goods member ≡ n) c.args.buyers.now i y c.requires.buyers.same_goods c.loop-buyer-test.true c.buyer-item.is in
     let total = total_at c.requires.buyers i y c.loop-buyer-test.true c.buyer-item.is in
     let e = c.add_falls.ensures in
     record {
@@ -77,7 +77,7 @@ loop-buyer-preserved g c =
       high = λ set. let a = e.high set in let b = c.loop-buyer.invariant.high set in omega (arith, ints, total.1);
       range = λ set h.
           let sum = e.sums set (subst (λ (m : ℕ). set < 2 ^ suc m) (sym same) h) in
-          let own = fall_range (omega (arith, c.requires.some)) (g.D.Convex.convex y) x (members set) in
+          let own = fall_range (omega (arith, c.requires.some)) (g.D.Convex.l_natural y) x (members set) in
           let b = c.loop-buyer.invariant.range set h in
           (omega (arith, ints, own.0, b.0), omega (arith, ints, own.1, b.1, total.1));
       small = let a = e.small in let b = c.loop-buyer.invariant.small in omega (arith, ints);

@@ -5,7 +5,7 @@ use Rattle.mix_market.proofs.sums.highest_top.Goals as goal
 
 pub loop-buyer-init : goal.loop-buyer-init
 loop-buyer-init g c =
-    let low = greatest_least (λ buyer. g.D.Convex.ceiling buyer c.args.good) c.args.buyers.now in
+    let low = greatest_least (λ buyer. g.D.Convex.top buyer c.args.good) c.args.buyers.now in
     record { so_far = omega (arith, ints, clamps); range = (omega (arith, ints), omega (arith, ints)) }
 
 pub loop-buyer-preserved : goal.loop-buyer-preserved
@@ -14,10 +14,10 @@ loop-buyer-preserved g c =
     let own = to_z w64 (of_z w64 c.top.result) in
     let range = c.top.ensures.range in
     record {
-      so_far = greatest_next (λ buyer. g.D.Convex.ceiling buyer c.args.good) c.args.buyers.now c.loop-buyer.buyer-index c.buyer-item.result highest own (to_z w64 (of_z w64 c.max-highest.result)) _ c.loop-buyer-test.true c.buyer-item.is
+      so_far = greatest_next (λ buyer. g.D.Convex.top buyer c.args.good) c.args.buyers.now c.loop-buyer.buyer-index c.buyer-item.result highest own (to_z w64 (of_z w64 c.max-highest.result)) _ c.loop-buyer-test.true c.buyer-item.is
           (omega (arith, ints, c.top.ensures.value, range.0, range.1)) (omega (arith, ints, c.max-highest.ensures.value)) c.loop-buyer.invariant.so_far;
       range = (omega (arith, ints, clamps), omega (arith, ints, clamps));
     }
 
 pub returns-clause-value : goal.returns-clause-value
-returns-clause-value g c = greatest_end (λ buyer. g.D.Convex.ceiling buyer c.args.good) c.args.buyers.now c.loop-buyer.buyer-index _ _ (omega arith) c.loop-buyer.invariant.range.0 c.loop-buyer.invariant.so_far
+returns-clause-value g c = greatest_end (λ buyer. g.D.Convex.top buyer c.args.good) c.args.buyers.now c.loop-buyer.buyer-index _ _ (omega arith) c.loop-buyer.invariant.range.0 c.loop-buyer.invariant.so_far

@@ -6,6 +6,6 @@ use Rattle.mix_market.proofs.sums.highest_top.Given as goal
 
 abbrev pub invariant-loop-buyer : goal.invariant-loop-buyer
 invariant-loop-buyer g l = record {
-  so_far : int_max l.highest (greatest_of (λ buyer. g.D.Convex.ceiling buyer l.good) (drop l.buyer-index l.buyers)) ≡ greatest_of (λ buyer. g.D.Convex.ceiling buyer l.good) l.buyers;
+  so_far : int_max l.highest (greatest_of (λ buyer. g.D.Convex.top buyer l.good) (drop l.buyer-index l.buyers)) ≡ greatest_of (λ buyer. g.D.Convex.top buyer l.good) l.buyers;
   range : Lies 1000000 l.highest;
 }

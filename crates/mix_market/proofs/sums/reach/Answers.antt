@@ -12,7 +12,7 @@ loop-buyer-init g c =
     let f = g.D.Convex.function in
     let x = with_null c.args.prices.now.items in
     let s = members c.args.set in
-    let high = least_most (λ buyer. g.D.Convex.span buyer x s) c.args.buyers.now in
+    let high = least_most (λ buyer. g.D.Convex.reach buyer x s) c.args.buyers.now in
     record {
       so_far = omega (arith, ints, clamps);
       low = omega (arith, ints);
@@ -29,7 +29,7 @@ loop-buyer-preserved g c =
     let own = to_z w64 (of_z w64 c.reach.result) in
     let range = c.reach.ensures.range in
     record {
-      so_far = least_next (λ buyer. g.D.Convex.span buyer x s) c.args.buyers.now c.loop-buyer.buyer-index c.buyer-item.result least own (to_z w64 (of_z w64 c.min-least.result)) _ c.loop-buyer-test.true c.buyer-item.is
+      so_far = least_next (λ buyer. g.D.Convex.reach buyer x s) c.args.buyers.now c.loop-buyer.buyer-index c.buyer-item.result least own (to_z w64 (of_z w64 c.min-least.result)) _ c.loop-buyer-test.true c.buyer-item.is
           (omega (arith, ints, c.reach.ensures.value, range.0, range.1)) (omega (arith, ints, c.min-least.ensures.value)) c.loop-buyer.invariant.so_far;
       low = omega (arith, ints, clamps);
       high = omega (arith, ints, clamps);
@@ -40,7 +40,7 @@ loop-buyer-preserved g c =
     }
 
 pub returns-clause-value : goal.returns-clause-value
-returns-clause-value g c = least_end (λ buyer. g.D.Convex.span buyer (with_null c.args.prices.now.items) (members c.args.set)) c.args.buyers.now c.loop-buyer.buyer-index _ _ (omega arith) c.loop-buyer.invariant.high c.loop-buyer.invariant.so_far
+returns-clause-value g c = least_end (λ buyer. g.D.Convex.reach buyer (with_null c.args.prices.now.items) (members c.args.set)) c.args.buyers.now c.loop-buyer.buyer-index _ _ (omega arith) c.loop-buyer.invariant.high c.loop-buyer.invariant.so_far
 
 pub returns-clause-linear : goal.returns-clause-linear
 returns-clause-linear g c = λ m h. sum_linear g.D.Convex.function c.args.buyers.now (with_null c.args.prices.now.items) (members c.args.set) m (λ k d l. c.loop-buyer.invariant.linear m h k (omega arith) d)

@@ -7,7 +7,7 @@ use Rattle.mix_market.specs.LargestFalls.{Tries}
 use Rattle.mix_market.specs.Markets.{goods_of, lyapunov_of}
 use Rattle.mix_market.specs.Steepest.{slope_of}
 use Rattle.mix_market.proofs.GoodsSets.{count_goods, even_goods}
-use Rattle.mix_market.proofs.LargestSets.{IsLast, last_none, last_next, set_before}
+use Rattle.mix_step.proofs.LargestSets.{IsLast, last_none, last_next, set_before}
 use Rattle.mix_market.proofs.MarketFacts.{market_keeps}
 use Rattle.mix_market.proofs.MarketLaws.{slope-none}
 use Rattle.mix_range.specs.HighPoints.{MayRise}

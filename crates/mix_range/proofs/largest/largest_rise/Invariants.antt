@@ -3,7 +3,7 @@ use Rattle.mix_num.specs.Vectors.{with_null}
 use Rattle.mix_market.specs.Markets.{goods_of, lyapunov_of}
 use Rattle.mix_market.specs.Steepest.{slope_of}
 use Rattle.mix_range.specs.HighPoints.{MayRise}
-use Rattle.mix_market.proofs.LargestSets.{IsLast}
+use Rattle.mix_step.proofs.LargestSets.{IsLast}
 use Rattle.mix_range.proofs.largest.largest_rise.Given as goal
 
 abbrev pub invariant-loop-half : goal.invariant-loop-half

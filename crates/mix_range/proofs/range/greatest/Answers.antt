@@ -4,7 +4,7 @@ use Rattle.mix_num.specs.Vectors.{with_null}
 use Rattle.mix_market.specs.Gaps.{IsAboveSomewhere}
 use Rattle.mix_market.specs.Lyapunov.{IsBelow}
 use Rattle.mix_market.specs.Markets.{goods_of}
-use Rattle.mix_market.proofs.Gaps.{below_or_above}
+use Rattle.mix_step.proofs.Gaps.{below_or_above}
 use Rattle.mix_range.proofs.range.greatest.Goals as goal
 
 pub returns-else-is_below-clause-none : goal.returns-else-is_below-clause-none

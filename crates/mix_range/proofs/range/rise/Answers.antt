@@ -9,14 +9,14 @@ use Rattle.mix_market.specs.Gaps.{greatest_gap}
 use Rattle.mix_market.specs.Steepest.{slope_of}
 use Rattle.mix_range.specs.HighPoints.{IsAsLow}
 use Rattle.mix_market.proofs.MarketFacts.{market_keeps}
-use Rattle.mix_market.proofs.Rooms.{some_good, not_empty, nothing_in}
-use Rattle.mix_market.proofs.Units.{widened}
+use Rattle.mix_step.proofs.Rooms.{some_good, not_empty, nothing_in}
+use Rattle.mix_step.proofs.Units.{widened}
 use Rattle.mix_range.proofs.Ceilings.{between, may_rise, under_ceiling}
-use Rattle.mix_market.proofs.Gaps.{gap_covers}
+use Rattle.mix_step.proofs.Gaps.{gap_covers}
 use Rattle.mix_range.proofs.HighPoints.{low_as_low, as_low_same, rise_ends}
 use Rattle.mix_range.proofs.LongRises.{below_goods, long_as_low, long_counts}
-use Rattle.mix_market.proofs.LongRises.{far_room}
-use Rattle.mix_market.proofs.LongMoves.{room_of}
+use Rattle.mix_step.proofs.LongRises.{far_room}
+use Rattle.mix_step.proofs.LongMoves.{room_of}
 use Rattle.mix_range.proofs.range.rise.Goals as goal
 
 pub loop-step-init : goal.loop-step-init

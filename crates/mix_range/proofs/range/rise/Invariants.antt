@@ -6,7 +6,7 @@ use Rattle.mix_seller.specs.Sellers.{reserve_of}
 use Rattle.mix_market.specs.Gaps.{greatest_gap}
 use Rattle.mix_range.specs.HighPoints.{IsAsLow, IsGreatestAsLow}
 use Rattle.mix_market.specs.Markets.{goods_of, lyapunov_of, seller_of}
-use Rattle.mix_market.proofs.Rooms.{room}
+use Rattle.mix_step.proofs.Rooms.{room}
 use Rattle.mix_range.proofs.range.rise.Given as goal
 
 abbrev pub invariant-loop-step : goal.invariant-loop-step

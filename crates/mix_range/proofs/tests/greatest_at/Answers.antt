@@ -5,7 +5,7 @@ use Rattle.mix_seller.specs.declared.seller.Seller.{Seller}
 use Rattle.mix_seller.specs.Sellers.{reserve_of}
 use Rattle.mix_market.specs.Markets.{goods_of, lyapunov_of, seller_of}
 use Rattle.mix_market.specs.Steepest.{slope_of}
-use Rattle.mix_market.proofs.Climbs.{end_least, start_best}
+use Rattle.mix_step.proofs.Climbs.{end_least, start_best}
 use Rattle.mix_market.proofs.MarketFacts.{market_keeps}
 use Rattle.mix_market.proofs.MarketLaws.{slope-none}
 use Rattle.mix_range.proofs.tests.greatest_at.Goals as goal

@@ -7,11 +7,11 @@ use Rattle.mix_seller.proofs.tests.swept.Goals as goal
 pub falls-requires-clause-range : goal.falls-requires-clause-range
 falls-requires-clause-range g c = λ set h.
     let total = c.total-total.ensures in
-    let small : g.D.Convex.weight c.args.member.now ≤ℤ pos 8000000 = omega (arith, ints, total.value, total.range.1) in
-    falls_fit (omega (arith, c.requires.size)) (g.D.Convex.convex c.args.member.now) small c.new-falls.result c.new-falls.ensures (with_null c.prices-prices.result.items) set
+    let small : g.D.Convex.total c.args.member.now ≤ℤ pos 8000000 = omega (arith, ints, total.value, total.range.1) in
+    falls_fit (omega (arith, c.requires.size)) (g.D.Convex.l_natural c.args.member.now) small c.new-falls.result c.new-falls.ensures (with_null c.prices-prices.result.items) set
 
 pub gains-requires-clause-range : goal.gains-requires-clause-range
 gains-requires-clause-range g c = λ set h.
     let total = c.total-total.ensures in
-    let small : g.D.Convex.weight c.args.member.now ≤ℤ pos 8000000 = omega (arith, ints, total.value, total.range.1) in
-    gains_fit (omega (arith, c.requires.size)) (g.D.Convex.convex c.args.member.now) small c.new-gains.result c.new-gains.ensures (with_null c.prices-prices.result.items) set
+    let small : g.D.Convex.total c.args.member.now ≤ℤ pos 8000000 = omega (arith, ints, total.value, total.range.1) in
+    gains_fit (omega (arith, c.requires.size)) (g.D.Convex.l_natural c.args.member.now) small c.new-gains.result c.new-gains.ensures (with_null c.prices-prices.result.items) set

@@ -9,7 +9,7 @@ use Rattle.mix_text.proofs.TieOrders.{is_order}
 use Rattle.mix_seller.specs.declared.seller.Seller.{Seller}
 use Rattle.mix_seller.specs.Sellers.{reserve_of, supply_of}
 use Rattle.mix_market.specs.Markets.{goods_of, members_of, seller_of}
-use Rattle.mix_clearing.specs.Clearings.{bidder_utility}
+use Rattle.mix_law.specs.Clearings.{bidder_utility}
 use Rattle.mix_clearing.proofs.MarketUtilities.{member_utility}
 use Rattle.mix_serve.proofs.FilledRows.{one_more_row, rows-tables}
 use Rattle.mix_serve.proofs.filling.tables_of.Given.{Over}

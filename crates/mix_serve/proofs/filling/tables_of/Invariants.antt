@@ -3,7 +3,7 @@ use Rattle.mix_num.specs.Orders.{place_at}
 use Rattle.mix_num.specs.Tables.{IsProper}
 use Rattle.mix_law.specs.Demands.{IsTableOf}
 use Rattle.mix_market.specs.Markets.{goods_of, members_of}
-use Rattle.mix_clearing.specs.Clearings.{bidder_utility}
+use Rattle.mix_law.specs.Clearings.{bidder_utility}
 use Rattle.mix_serve.proofs.filling.tables_of.Given as goal
 
 -- the rows so far are the tables of the members of the turns so far

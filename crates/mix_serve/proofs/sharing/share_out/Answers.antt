@@ -6,7 +6,7 @@ use Rattle.mix_num.specs.Orders.{place_at}
 use Rattle.mix_num.specs.declared.pair.Tight.{Tight}
 use Rattle.mix_seller.specs.Sellers.{reserve_of, supply_of}
 use Rattle.mix_market.specs.Markets.{members_of, seller_of}
-use Rattle.mix_clearing.specs.Clearings.{IsSolution}
+use Rattle.mix_law.specs.Clearings.{IsSolution}
 use Rattle.mix_serve.specs.Answers.{AreFirstPairs}
 use Rattle.mix_serve.proofs.MarketShares.{ArePutBack, market-lies, market-solution}
 use Rattle.mix_serve.proofs.sharing.share_out.Given.{Over}
@@ -21,7 +21,7 @@ pub share-requires-clause-places : goal.share-requires-clause-places
 share-requires-clause-places g c =
     let count = ap (λ xs. length xs) c.members-members.ensures in
     let ready = c.in_ok-tables.ensures.members in
-    let empty = c.in_ok-shared.ensures in
+    let count_shared = c.in_ok-shared.ensures.count in
     let now = ap (λ xs. length xs) c.deref_mut.ensures.value in
     omega arith
 
@@ -37,7 +37,7 @@ share-requires-clause-tight_places g c =
     ∙ pairs_count (length c.members-members.result.now) (length c.in_ok-tables.tables.rows) c.len.result c.in_ok-tables.tables.goods (length c.in_ok-pairs.pairs.items)
     (ready.members ∙ ap suc (sym (ap (λ xs. length xs) c.members-members.ensures)))
     (c.len.ensures.value ∙ ap (λ xs. length xs) supply ∙ sym ready.goods)
-    c.in_ok-pairs.ensures
+    c.in_ok-pairs.ensures.count
 
 -- what was shared in tie order is put back at the members' places
 put_back : (g : Over) (c : goal.After-drop-tables-inside-6 g)
@@ -82,7 +82,7 @@ shared g c =
     ∙ pairs_count (length c.members-members.result.now) (length c.in_ok-tables.tables.rows) c.len.result c.in_ok-tables.tables.goods (length c.in_ok-pairs.pairs.items)
     (ready.members ∙ ap suc (sym (ap (λ xs. length xs) c.members-members.ensures)))
     (c.len.ensures.value ∙ ap (λ xs. length xs) supply ∙ sym ready.goods)
-    c.in_ok-pairs.ensures in
+    c.in_ok-pairs.ensures.count in
     market-solution c.args.market.now c.args.order.now c.args.prices.now.items c.requires.order c.requires.range.0 c.requires.least c.in_ok-tables.tables.goods c.in_ok-tables.tables.rows c.supply-supply.result.now.items
     (map (λ b. b.items) new) (map (λ b. b.items) c.pop.new.self.items) (map (λ b. b.items) c.in_ok-bundles.bundles.items) c.unwrap-returns.result.items c.share.new.tights c.in_ok-tights.tights.items
     ready.goods ready.tables supply all c.share.ensures.shares c.share.ensures.tights count (put_back g c)

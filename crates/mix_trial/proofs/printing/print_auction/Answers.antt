@@ -1,4 +1,4 @@
-use Rattle.std.proofs.Common.{◌≡◌, ◌+◌, ℕ, List, [], Ok, IfOk, length, rules, subst}
+use Rattle.std.proofs.Common.{◌≡◌, ◌+◌, ℕ, List, [], Ok, IfOk, length, refl, subst}
 use Rattle.std.proofs.lemmas.Result.{IfOk-weaker}
 use Rattle.mix_text.specs.AuctionTexts.{auction_text}
 use Rattle.mix_text.specs.Pages.{printed}
@@ -11,9 +11,7 @@ use Rattle.mix_trial.proofs.printing.print_auction.Goals as goal
 
 pub returns-clause-text : goal.returns-clause-text
 returns-clause-text c =
-    let sold : c.deref.result.now ≡ c.args.auction.now.supply.items = search rules in
-    let least : c.deref-2.result.now ≡ c.args.auction.now.reserve.items = search rules in
-    let text = auction_pages (auction_text c.args.auction.now) _ _ _ _ _ _ _ _ _ _ _ sold least c.new-page.ensures c.in_ok-add_head.ensures c.in_ok-add_goods.ensures
+    let text = auction_pages (auction_text c.args.auction.now) _ _ _ _ _ _ _ _ _ _ _ refl refl c.new-page.ensures c.in_ok-add_head.ensures c.in_ok-add_goods.ensures
     c.in_ok-add_amounts.ensures c.in_ok-add_amounts-2.ensures c.in_ok-add_bidders.ensures c.in_ok-add_caps.ensures c.in_ok-add_order.ensures c.in_ok-add_end.ensures in
     subst (λ (t : List ℕ). IfOk c.finish.result (λ bytes. bytes.items ≡ t)) text c.finish.ensures
 

@@ -10,8 +10,8 @@ use Rattle.mix_bids.proofs.list.BidList.push_negative.Goals as goal
 pub invariant_of-self-2 : goal.invariant_of-self-2
 invariant_of-self-2 c =
     let i = c.self.invariant in
-    let e = c.in-Ok-push.ensures.items in
-    let f = c.in-Ok.ensures.items in
+    let e = c.in-Ok.ensures.items in
+    let f = c.in_ok-push.ensures.items in
     let v = c.self.view_is in
     let r = c.requires.room in
     let n = c.self.inside.goods in

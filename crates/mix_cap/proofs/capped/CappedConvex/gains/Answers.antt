@@ -6,13 +6,13 @@ use Rattle.mix_law.specs.Members.{keeps_local, rho}
 use Rattle.mix_law.proofs.Outside.{rho-rest}
 use Rattle.mix_bids.proofs.Tallies.{one_done}
 use Rattle.mix_cap.specs.Cappeds.{units_cap, utility_of}
-use Rattle.mix_cap.specs.Laws.{capped_convex}
+use Rattle.mix_cap.specs.Laws.{capped_l_natural}
 use Rattle.mix_cap.proofs.capped.CappedConvex.gains.Goals as goal
 
 amount : (c : goal.After-at) → to_z w64 (of_z w64 (to_z w64 (of_z w64 c.served-served.result) -ℤ to_z w64 (of_z w64 c.at.result))) ≡ rho (utility_of c.args.self.now) (with_null c.args.prices.now.items) (members c.from_bits-set.result)
 amount c =
     let s = c.args.self.now in
-    let laws = capped_convex s.list.goods (units_cap s) s.list.bids s.proper s.positive in
+    let laws = capped_l_natural s.list.goods (units_cap s) s.list.bids s.proper s.positive in
     let within = subst (λ (n : ℕ). c.outside.result < 2 ^ suc n) c.goods-goods.ensures.value c.outside.ensures.within in
     let rest = rho-rest (keeps_local laws) (with_null c.args.prices.now.items) (members c.from_bits-set.result) (members c.outside.result) (λ k l. let e = c.goods-goods.ensures.value in c.outside.ensures.members k (omega arith)) in
     let a = c.at.ensures in

@@ -7,7 +7,7 @@ use Rattle.mix_demand.proofs.rho.Rho.zero.Goals as goal
 
 pub invariant_of-result : goal.invariant_of-result
 invariant_of-result c =
-    let e = c.in-Ok.ensures.items_if_clones_equal (λ y h. h) in
+    let e = c.in_ok-numbers.ensures.items_if_clones_equal (λ y h. h) in
     let small : 2 ^ c.args.goods ≤ 2 ^ 8 = pow_mono c.requires in
     let size = ap (λ (xs : List ℤ). length xs) e ∙ length-replicate (2 * 2 ^ c.args.goods % 18446744073709551616) (pos 0) in
     record {

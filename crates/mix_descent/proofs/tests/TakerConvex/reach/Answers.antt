@@ -10,7 +10,7 @@ lesser a r c u d e h = d ∙ e ∙ ap (λ (z : ℤ). int_min z (pos 2)) h
 pub returns-clause-value : goal.returns-clause-value
 returns-clause-value g c =
     let range = c.reach.ensures.range in
-    let span = g.D.Convex.span c.args.self.now.taken (with_null c.args.prices.now.items) (members c.args.set) in
+    let span = g.D.Convex.reach c.args.self.now.taken (with_null c.args.prices.now.items) (members c.args.set) in
     let taken : to_z w64 (of_z w64 c.reach.result) ≡ span = omega (arith, ints, c.reach.ensures.value, range.0, range.1) in
     let least : to_z w64 (of_z w64 c.min.result) ≡ c.min.result = omega (arith, ints) in
     lesser (to_z w64 (of_z w64 c.reach.result)) c.min.result (to_z w64 (of_z w64 c.min.result)) span least c.min.ensures.value taken

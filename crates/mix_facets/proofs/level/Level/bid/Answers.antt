@@ -3,7 +3,7 @@ use Rattle.std.proofs.lemmas.List.{get_or_default}
 use Rattle.std.proofs.lemmas.List.Elements.{All-get_or}
 use Rattle.mix_bids.specs.Bids.{IsBid}
 use Rattle.mix_bids.specs.Levels.{has_lead}
-use Rattle.mix_facets.specs.Planes.{places, bids_of}
+use Rattle.mix_facets.specs.Levels.{places, bids_of}
 use Rattle.mix_facets.proofs.Places.{length-places, IsPlaced, placed}
 use Rattle.mix_facets.proofs.level.Level.bid.Goals as goal
 use Rattle.mix_facets.proofs.level.Level.bid.Goals.{After-index}

@@ -18,8 +18,8 @@ pub returns-clause-value : goal.returns-clause-value
 returns-clause-value g c =
     let x = with_null c.args.prices.now.items in
     let set = members c.args.set in
-    let first : to_z w64 (of_z w64 c.reach.result) ≡ g.A.Convex.span c.args.self.now.first x set = omega (arith, ints, c.reach.ensures.value, c.reach.ensures.range.0, c.reach.ensures.range.1) in
-    let second : to_z w64 (of_z w64 c.reach-2.result) ≡ g.B.Convex.span c.args.self.now.second x set = omega (arith, ints, c.reach-2.ensures.value, c.reach-2.ensures.range.0, c.reach-2.ensures.range.1) in
+    let first : to_z w64 (of_z w64 c.reach.result) ≡ g.A.Convex.reach c.args.self.now.first x set = omega (arith, ints, c.reach.ensures.value, c.reach.ensures.range.0, c.reach.ensures.range.1) in
+    let second : to_z w64 (of_z w64 c.reach-2.result) ≡ g.B.Convex.reach c.args.self.now.second x set = omega (arith, ints, c.reach-2.ensures.value, c.reach-2.ensures.range.0, c.reach-2.ensures.range.1) in
     let least : to_z w64 (of_z w64 c.min.result) ≡ c.min.result = omega (arith, ints) in
     lesser (to_z w64 (of_z w64 c.reach.result)) (to_z w64 (of_z w64 c.reach-2.result)) c.min.result (to_z w64 (of_z w64 c.min.result))
-    (g.A.Convex.span c.args.self.now.first x set) (g.B.Convex.span c.args.self.now.second x set) least c.min.ensures.value first second
+    (g.A.Convex.reach c.args.self.now.first x set) (g.B.Convex.reach c.args.self.now.second x set) least c.min.ensures.value first second

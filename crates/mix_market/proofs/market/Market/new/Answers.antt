@@ -11,9 +11,9 @@ loop-place-preserved g c =
     let tops = c.loop-place.tops.items in
     let range = c.highest_top.ensures.range in
     let same : to_z w64 (of_z w64 c.highest_top.result) ≡ c.highest_top.result = omega (arith, ints, range.0, range.1) in
-    let members = ap₂ (λ (good : ℕ) (z : List g.row.D.Denot). greatest_of (λ member. g.D.Convex.ceiling member good) z) (add-one c.loop-place.place) c.deref-in-loop-place.ensures.value in
+    let members = ap₂ (λ (good : ℕ) (z : List g.row.D.Denot). greatest_of (λ member. g.D.Convex.top member good) z) (add-one c.loop-place.place) c.deref-in-loop-place.ensures.value in
     record {
       count = omega (arith, c.push.ensures.len);
       range = subst (All (Lies 1000000)) (sym c.push.ensures.items) (All-push (Lies 1000000) tops _ c.loop-place.invariant.range (subst (Lies 1000000) (sym same) range));
-      greatest = numbers_next (λ (place : ℕ). greatest_of (λ member. g.D.Convex.ceiling member (suc place)) c.args.members.items) tops c.push.new.self.items c.loop-place.place _ c.push.ensures.items c.loop-place.invariant.count (same ∙ c.highest_top.ensures.value ∙ members) c.loop-place.invariant.greatest;
+      greatest = numbers_next (λ (place : ℕ). greatest_of (λ member. g.D.Convex.top member (suc place)) c.args.members.items) tops c.push.new.self.items c.loop-place.place _ c.push.ensures.items c.loop-place.invariant.count (same ∙ c.highest_top.ensures.value ∙ members) c.loop-place.invariant.greatest;
     }

@@ -21,4 +21,4 @@ returns-clause-linear g c = λ m h.
 pub returns-clause-value : goal.returns-clause-value
 returns-clause-value g c =
     let same : to_z w64 (of_z w64 c.reach.result) ≡ c.reach.result = omega (arith, ints, c.reach.ensures.range.0, c.reach.ensures.range.1) in
-    same ∙ c.reach.ensures.value ∙ ap (least_of (λ member. g.D.Convex.span member (with_null c.args.prices.now.items) (within c.args.set))) c.deref.ensures.value
+    same ∙ c.reach.ensures.value ∙ ap (least_of (λ member. g.D.Convex.reach member (with_null c.args.prices.now.items) (within c.args.set))) c.deref.ensures.value

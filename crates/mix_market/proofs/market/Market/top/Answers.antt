@@ -14,10 +14,10 @@ returns-clause-value g c =
     let e = ap (λ (z : List ℤ). slice_index_or z place (pos 0)) c.deref.ensures.0 in
     let same : to_z w64 (of_z w64 (slice_index_or c.deref.result.now place (pos 0))) ≡ get_or market.tops.items place (pos 0) = omega (arith, ints, range.0, range.1, e) in
     let next : suc place ≡ good = omega arith in
-    same ∙ market.priced.greatest place (omega arith) ∙ ap (λ (k : ℕ). greatest_of (λ member. g.D.Convex.ceiling member k) (members_of market)) next
+    same ∙ market.priced.greatest place (omega arith) ∙ ap (λ (k : ℕ). greatest_of (λ member. g.D.Convex.top member k) (members_of market)) next
 
 pub returns-clause-above : goal.returns-clause-above
 returns-clause-above g c = λ k d l.
-    let covers = greatest_covers (λ member. g.D.Convex.ceiling member c.args.good) (members_of c.args.self.now) k d l in
+    let covers = greatest_covers (λ member. g.D.Convex.top member c.args.good) (members_of c.args.self.now) k d l in
     let value = returns-clause-value g c in
     omega (arith, ints)

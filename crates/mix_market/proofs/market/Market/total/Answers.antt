@@ -7,7 +7,7 @@ use Rattle.mix_market.proofs.market.Market.total.Goals as goal
 pub returns-clause-range : goal.returns-clause-range
 returns-clause-range g c =
     let market = c.args.self.now in
-    let range = totals_range g.D.Convex.weight (members_of market) market.membership.totals in
+    let range = totals_range g.D.Convex.total (members_of market) market.membership.totals in
     let few = market.membership.few in
     let is = market.summed in
     (omega (arith, ints, range.0), omega (arith, ints, range.1))

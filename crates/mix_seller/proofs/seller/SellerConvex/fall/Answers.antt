@@ -3,7 +3,7 @@ use Rattle.std.proofs.lemmas.Int.{ints}
 use Rattle.mix_num.specs.Sellers.{unit_gain}
 use Rattle.mix_num.specs.Vectors.{members, plus, sum_to, with_null}
 use Rattle.mix_law.proofs.Ranges.{fall_range}
-use Rattle.mix_seller.specs.Laws.{seller_convex}
+use Rattle.mix_seller.specs.Laws.{seller_l_natural}
 use Rattle.mix_seller.proofs.Steps.{next_difference}
 use Rattle.mix_seller.proofs.seller.SellerConvex.fall.Goals as goal
 
@@ -34,5 +34,5 @@ returns-clause-range c =
     let x = with_null c.args.prices.now.items in
     let sale = c.args.self.now.for_sale in
     let e = returns-clause-value c in
-    let r = fall_range sale.some (seller_convex supply reserve sale) x (members c.args.set) in
+    let r = fall_range sale.some (seller_l_natural supply reserve sale) x (members c.args.set) in
     (omega (arith, ints, e, r.0), omega (arith, ints, e, r.1))

@@ -3,7 +3,7 @@ use Rattle.std.proofs.lemmas.Int.{ints}
 use Rattle.mix_num.specs.Sellers.{unit_gain}
 use Rattle.mix_num.specs.Vectors.{sum_to, with_null}
 use Rattle.mix_law.proofs.Ranges.{value_range}
-use Rattle.mix_seller.specs.Laws.{seller_convex}
+use Rattle.mix_seller.specs.Laws.{seller_l_natural}
 use Rattle.mix_seller.proofs.Steps.{next, reserve_lies}
 use Rattle.mix_seller.proofs.seller.SellerConvex.value.Goals as goal
 
@@ -23,5 +23,5 @@ returns-clause-range c =
     let sale = c.args.self.now.for_sale in
     let all : c.loop-k.k ≡ length supply = omega arith in
     let e = ap (λ z. sum_to z (λ j. with_null supply (suc j) *ℤ unit_gain reserve x (suc j))) all in
-    let r = value_range sale.some (seller_convex supply reserve sale) (reserve_lies supply reserve sale) c.args.prices.now.items c.requires in
+    let r = value_range sale.some (seller_l_natural supply reserve sale) (reserve_lies supply reserve sale) c.args.prices.now.items c.requires in
     (omega (arith, ints, r.0), omega (arith, ints, r.1))
