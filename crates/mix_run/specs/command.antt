@@ -1,0 +1,12 @@
+pub mod Check
+pub mod Compare
+pub mod Prices
+pub mod Range
+pub mod Session
+pub mod Solve
+pub mod Swaps
+pub mod Trail
+pub mod Trial
+pub mod Upgrade
+pub mod Utility
+pub mod Validate
