@@ -1,0 +1,1 @@
+"""Tables of bids as people keep them, and how they become auctions and come back."""
