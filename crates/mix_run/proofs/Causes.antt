@@ -89,7 +89,7 @@ told Trail text output done =
     ] in
     record { met = e.met; unmet = e.unmet; one = e.one }
 told Solve text output done =
-    let e = from_outcome text output done.0 done.1 done.2.0 done.2.1 done.2.3 in
+    let e = from_outcome text output done.0 done.1 done.2.0 done.2.1.0 done.2.2 in
     record { met = e.met; unmet = e.unmet; one = e.one }
 told Check text output done = elim done.3 [
   | inl affirmed ↦ record {
