@@ -5,9 +5,10 @@ import select
 import shutil
 import signal
 import subprocess
+import sys
 import tempfile
 from pathlib import Path
-from typing import NamedTuple, Optional, Sequence, Tuple, Union
+from typing import BinaryIO, NamedTuple, Optional, Sequence, Tuple, Union, cast
 
 from ._errors import ProgramError, ProgramNotFound
 from ._text import shown
@@ -62,11 +63,11 @@ def _named(program: PathName, by: str) -> str:
 def run_program(program: str, words: Sequence[str], text: bytes) -> Reply:
     """Runs the program on a text."""
     # From a file the program takes its text when it will, so neither side ever waits for the other.
-    with tempfile.TemporaryFile() as file:
-        file.write(text)
-        file.seek(0)
+    with _file_of(text) as file:
         try:
-            process = subprocess.Popen([program, *words], stdin=file, stdout=subprocess.PIPE, stderr=subprocess.PIPE)
+            # No file of this process is open to others unless somebody said so, so there are none to be closed.
+            process = subprocess.Popen([program, *words], stdin=file, stdout=subprocess.PIPE, stderr=subprocess.PIPE,
+                                       close_fds=False)
         except OSError as error:
             raise ProgramNotFound("%s can't be run: %s" % (program, error.strerror)) from error
         with process:
@@ -78,6 +79,19 @@ def run_program(program: str, words: Sequence[str], text: bytes) -> Reply:
     reply = Reply(process.returncode, printed, shown(told))
     _look_at_end(program, reply)
     return reply
+
+
+def _file_of(text: bytes) -> BinaryIO:
+    """A file without a name in which the text stands, in memory where the system has such files."""
+    if sys.platform == "linux" and hasattr(os, "memfd_create"):
+        file: BinaryIO = open(os.memfd_create(PROGRAM_NAME), "r+b", buffering=0)
+    else:
+        file = cast(BinaryIO, tempfile.TemporaryFile(buffering=0))
+    left = memoryview(text)
+    while left:
+        left = left[file.write(left):]
+    file.seek(0)
+    return file
 
 
 def _read_both(process: "subprocess.Popen[bytes]") -> Tuple[bytes, bytes]:
