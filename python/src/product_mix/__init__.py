@@ -76,6 +76,9 @@ from ._outcome import (
     Share,
     Tight,
 )
+from ._pictures.drawing import (
+    picture,
+)
 from ._session import (
     Session,
 )
@@ -130,6 +133,7 @@ __all__ = [
     "from_dots",
     "generate",
     "generate_owned",
+    "picture",
     "prices",
     "solve",
     "solve_many",
