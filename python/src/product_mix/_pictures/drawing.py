@@ -29,7 +29,7 @@ def picture(auction: Auction, outcome: Union[Cleared, Refused, None] = None, *, 
 
     >>> auction = Auction(["permit"], supply=[3], reserve=[2]).bid("Ada", 2, permit=10)
     >>> picture(auction).splitlines()[1]
-    '<title>Bids for permit</title>'
+    '<title>Demand and supply of permit</title>'
     """
     what = asked(auction, outcome, bidder, goods, trail, span, title, shown)
     return plane_of(what) if len(what.goods) == 2 else stairs_of(what)

@@ -1,20 +1,21 @@
 """Two goods in the plane of their prices."""
 
-import math
 from typing import Callable, Dict, Iterator, List, Optional, Sequence, Tuple
 
 from .._outcome import Refused
 from .._standing import FILLED, PARTLY, UNFILLED
-from .asked import OPEN, Asked, Dot
+from .asked import Asked, Dot
 from .axes import SIDE, Frame, Range, frame_of, range_of
 from .facets import BOTH, FIRST, Facet, Unit, facets_of, wanted
 from .labels import Labels, along, around, spots_by_depth
-from .legend import Entry, legend, line_entry, swatch_entry, words_entry
-from .marks import (
-    CALLED, FURTHER, PALETTE, Mark, colours_of, cross, opacity_of, radii, sign, spread,
+from .legend import Entry, legend, line_entry, words_entry
+from .marks import Mark, colours_of, cross, opacity_of, radii, sign, spread
+from .parts import (
+    PRICE_WIDTH, RESERVE_DASHES, TRAIL_COLOUR, TRAIL_WIDTH, arrow, bid_entries, bidder_entries, counted, is_near, mark_words,
+    other_notes, sides, signed,
 )
 from .svg import (
-    FAINT, FONT, INK, SMALL, STRIP_GROUND, Box, Line, Spot, circle, document, path_through, polygon, rectangle, stroke, words,
+    FAINT, FONT, INK, SMALL, STRIP_GROUND, Box, Line, Spot, circle, document, rectangle, stroke, words,
 )
 
 WIDTH = 600
@@ -26,9 +27,8 @@ STRIP, GAP = 26, 8
 # How far the numbers of an axis stand from the plane or the strip.
 NUMBERS = 8
 
-RESERVE_DASHES, NEGATIVE_DASHES, TRAIL_DASHES = "2 4", "9 5", "1 0"
-TRAIL_COLOUR = "#888888"
-PRICE_WIDTH, FACET_WIDTH, TRAIL_WIDTH = 2.5, 2, 4
+NEGATIVE_DASHES = "9 5"
+FACET_WIDTH = 2
 
 # Regions are found in so many columns and rows, fewer where there are many bids; so many of them are named at most.
 CELLS, FEW_CELLS, MANY_BIDS = 80, 40, 60
@@ -87,7 +87,7 @@ class _Plane:
         labels = self.labels
         labels.lines += [line for line, _ in facets]
         labels.lines += prices
-        labels.faint += [*self._reserve_lines(), *_sides(self.frame.box)]
+        labels.faint += [*self._reserve_lines(), *sides(self.frame.box)]
         labels.boxes += [Box(x - r, y - r, x + r, y + r) for (x, y), r, _ in marks]
         if self.mark is not None and self.frame.has(self.mark):
             spot = self.frame.spot(self.mark)
@@ -133,12 +133,12 @@ class _Plane:
         for tick in frame.across.ticks():
             x = frame.across.at(tick)
             parts.append(stroke(((x, box.top), (x, box.bottom)), FAINT))
-            parts.append(words((x, self._under() + NUMBERS + 10), _signed(amount(tick)), SMALL))
+            parts.append(words((x, self._under() + NUMBERS + 10), signed(amount(tick)), SMALL))
         for tick in frame.up.ticks():
             y = frame.up.at(tick)
             parts.append(stroke(((box.left, y), (box.right, y)), FAINT))
-            parts.append(words((self._beside() - NUMBERS, y + 4), _signed(amount(tick)), SMALL, anchor="end"))
-        parts += [stroke(side) for side in _sides(box)]
+            parts.append(words((self._beside() - NUMBERS, y + 4), signed(amount(tick)), SMALL, anchor="end"))
+        parts += [stroke(side) for side in sides(box)]
         return [*parts, *self._axis_names()]
 
     def _axis_names(self) -> List[str]:
@@ -185,12 +185,7 @@ class _Plane:
         return [line for line in lines if line is not None]
 
     def _mark_words(self) -> str:
-        assert self.mark is not None
-        amounts = ", ".join(map(self.asked.shown.amount, self.mark))
-        outcome = self.asked.outcome
-        if isinstance(outcome, Refused):
-            return "%s refused: %d" % (self.asked.shown.bidder(outcome.bidder), outcome.facet.weight)
-        return "price %s" % amounts
+        return "" if self.mark is None else mark_words(self.asked, self.mark)
 
     def _cross(self) -> List[str]:
         return [cross(self.frame.spot(self.mark))] if self.mark is not None and self.frame.has(self.mark) else []
@@ -222,7 +217,7 @@ class _Plane:
                     columns[spot] = max(1, int(STRIP / (2 * radius + 1)))
         outside = len(self.asked.dots) - len(marks)
         if outside:
-            self.notes.append("%s outside of what the axes show." % _counted(outside, "bid lies", "bids lie"))
+            self.notes.append("%s outside of what the axes show." % counted(outside, "bid lies", "bids lie"))
         return spread(marks, columns)
 
     def _spot(self, dot: Dot) -> Optional[Spot]:
@@ -283,7 +278,7 @@ class _Plane:
     def _told(self, marks: Sequence[Mark]) -> str:
         """The picture in a sentence or two, for those who don't see it."""
         amount = self.asked.shown.amount
-        told = ["%s in the plane of the prices of %s and %s." % (_counted(len(marks), "bid", "bids"), *self.goods)]
+        told = ["%s in the plane of the prices of %s and %s." % (counted(len(marks), "bid", "bids"), *self.goods)]
         told.append("The reserves are %s and %s." % (amount(self.asked.reserves[0]), amount(self.asked.reserves[1])))
         if self.asked.prices is not None:
             told.append("The prices are %s and %s." % (amount(self.asked.prices[0]), amount(self.asked.prices[1])))
@@ -327,7 +322,7 @@ class _Plane:
         if not self.frame.is_even:
             notes.append("The two axes have different scales, so the slanted lines stand at no 45 degrees.")
         if asked.cap is not None:
-            notes.append("Under a cap of %s." % _counted(asked.cap, "unit", "units"))
+            notes.append("Under a cap of %s." % counted(asked.cap, "unit", "units"))
         elif asked.bidder is None and any(mark.dot.bidder in asked.auction.caps for mark in marks) and asked.prices:
             notes.append("Bidders with a cap get no more than that, so their bids may be unfilled anywhere.")
         notes += other_notes(asked)
@@ -336,79 +331,15 @@ class _Plane:
                 self._mark_words(), ", ".join(map(asked.shown.amount, self.mark))))
         if self.labels.left_out:
             notes.append("%s no room: lines before bids, and bids of many units before those of few, are named first."
-                         % _counted(self.labels.left_out, "label had", "labels had"))
+                         % counted(self.labels.left_out, "label had", "labels had"))
         return notes
 
 
-# ------------------------------------------------------------------------------------------------- what pictures share
-
-def bidder_entries(asked: Asked, marks: Sequence[Mark], colours: Dict[str, str]) -> List[Entry]:
-    """The colours of the bidders who occur, and one for all further ones."""
-    if asked.bidder is not None:
-        return []
-    occurring = {mark.dot.bidder for mark in marks}
-    names = [name for name in asked.auction.bidders if name in occurring]
-    own = [name for name in names if colours[name] != FURTHER]
-    entries = [swatch_entry(asked.shown.bidder(name), colours[name]) for name in own]
-    further = len(names) - len(own)
-    if further:
-        entries.append(swatch_entry(_counted(further, "further bidder", "further bidders"), FURTHER))
-    return entries
-
-
-def bid_entries(asked: Asked, marks: Sequence[Mark], colours: Dict[str, str]) -> List[Entry]:
-    """The signs of bids that occur."""
-    colour = "#777777" if asked.bidder is None else colours[asked.bidder]
-    occurring = {(mark.dot.kind, mark.dot.weight < 0) for mark in marks}
-    return [_bid_entry(kind, is_negative, colour) for kind, is_negative in CALLED if (kind, is_negative) in occurring]
-
-
-def _bid_entry(kind: str, is_negative: bool, colour: str) -> Entry:
-    return Entry(lambda spot: sign(spot, 6, kind, is_negative, colour), CALLED[kind, is_negative])
-
-
-def other_notes(asked: Asked) -> List[str]:
-    """At which prices of the goods that aren't drawn the picture holds."""
-    if not asked.others or asked.outcome is None or isinstance(asked.outcome, Refused):
-        return []
-    prices = asked.outcome.prices
-    told = ", ".join("%s %s" % (asked.shown.good(good), asked.shown.amount(prices[good])) for good in asked.others)
-    notes = ["At the printed prices of the other goods: %s. What the best of them leaves a bid is taken off its values." % told]
-    left = sum(asked.bidder in (None, bid.bidder) for bid in asked.auction.bids) - len(asked.dots)
-    if left:
-        notes.append("%s no good that is drawn." % _counted(left, "bid offers to take", "bids offer to take"))
-    return notes
-
-
-def arrow(line: Line, colour: str) -> str:
-    """The head of an arrow in the middle of a line, which points to its end; none where the line is short."""
-    (x, y), (to_x, to_y) = line
-    length = math.hypot(to_x - x, to_y - y)
-    if length < 24:
-        return ""
-    right, down = (to_x - x) / length, (to_y - y) / length
-    tip = ((x + to_x) / 2 + 8 * right, (y + to_y) / 2 + 8 * down)
-    back = (tip[0] - 14 * right, tip[1] - 14 * down)
-    return polygon([tip, (back[0] - 7 * down, back[1] + 7 * right), (back[0] + 7 * down, back[1] - 7 * right)], colour)
-
-
-def _counted(count: int, one: str, many: str) -> str:
-    return "%d %s" % (count, one if count == 1 else many)
-
-
-def _signed(amount: str) -> str:
-    """An amount with a true minus, which is wider than a hyphen."""
-    return amount.replace("-", "\u2212")
-
+# ---------------------------------------------------------------------------------------------------------- the plane
 
 def _strip_sign(spot: Spot) -> str:
     x, y = spot
     return rectangle(Box(x - 9, y - 7, x + 9, y + 7), STRIP_GROUND, "#aaaaaa")
-
-
-def _sides(box: Box) -> List[Line]:
-    corners = [(box.left, box.top), (box.right, box.top), (box.right, box.bottom), (box.left, box.bottom)]
-    return list(zip(corners, [*corners[1:], corners[0]]))
 
 
 def _mark_of(asked: Asked) -> Optional[Tuple[int, ...]]:
@@ -431,14 +362,9 @@ def _range(asked: Asked, mark: Optional[Tuple[int, ...]], at: int) -> Range:
     values = [dot.values[at] for dot in asked.dots]
     prices = [value for value in values if value is not None] + [asked.reserves[at]]
     prices += [point[at] for point in asked.points()]
-    if mark is not None and (asked.prices is not None or _is_near(mark[at], prices)):
+    if mark is not None and (asked.prices is not None or is_near(mark[at], prices)):
         prices.append(mark[at])
     return range_of(prices)
-
-
-def _is_near(price: int, prices: Sequence[int]) -> bool:
-    """Whether a price lies no farther out than the others reach; a place that shows a refusal may lie anywhere."""
-    return 2 * min(prices) - max(prices) - 10 <= price <= 2 * max(prices) + 10
 
 
 def _facet_line(frame: Frame, facet: Facet) -> Optional[Line]:
@@ -483,5 +409,3 @@ def _flood(bundles: "Dict[Tuple[int, int], Optional[Bundle]]", start: Tuple[int,
                 waiting.append(other)
     return region
 
-
-__all__ = ["FURTHER", "OPEN", "PALETTE", "path_through", "plane_of"]

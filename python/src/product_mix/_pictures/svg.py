@@ -79,12 +79,6 @@ def polygon(spots: Sequence[Spot], fill: str, edge: Value = None, width: Value =
     return element("polygon", points=_joined(spots), fill=fill, stroke=edge, stroke_width=width, fill_opacity=opacity)
 
 
-def path_through(spots: Sequence[Spot], colour: str, width: float, dashes: Value = None) -> str:
-    """A line from spot to spot."""
-    return element("polyline", points=_joined(spots), fill="none", stroke=colour, stroke_width=width,
-                   stroke_dasharray=dashes, stroke_linejoin="round")
-
-
 def circle(spot: Spot, radius: float, fill: str, edge: Value = None, width: Value = None, opacity: Value = None) -> str:
     return element("circle", cx=spot[0], cy=spot[1], r=radius, fill=fill, stroke=edge, stroke_width=width,
                    fill_opacity=opacity)

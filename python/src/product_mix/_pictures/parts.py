@@ -1,0 +1,91 @@
+"""What the pictures of one good and of two share."""
+
+import math
+from typing import Dict, List, Sequence
+
+from .._outcome import Cleared, Refused
+from .asked import Asked
+from .legend import Entry, swatch_entry
+from .marks import CALLED, FURTHER, Mark, sign
+from .svg import Box, Line, polygon
+
+RESERVE_DASHES = "2 4"
+TRAIL_COLOUR = "#888888"
+PRICE_WIDTH, TRAIL_WIDTH = 2.5, 4
+
+
+def mark_words(asked: Asked, prices: Sequence[int]) -> str:
+    """What is written at the prices of the outcome, or where a list was refused."""
+    outcome = asked.outcome
+    if isinstance(outcome, Refused):
+        return "%s refused: %d" % (asked.shown.bidder(outcome.bidder), outcome.facet.weight)
+    return "price %s" % ", ".join(map(asked.shown.amount, prices))
+
+
+def bidder_entries(asked: Asked, marks: Sequence[Mark], colours: Dict[str, str]) -> List[Entry]:
+    """The colours of the bidders who occur, and one for all further ones."""
+    if asked.bidder is not None:
+        return []
+    occurring = {mark.dot.bidder for mark in marks}
+    names = [name for name in asked.auction.bidders if name in occurring]
+    own = [name for name in names if colours[name] != FURTHER]
+    entries = [swatch_entry(asked.shown.bidder(name), colours[name]) for name in own]
+    further = len(names) - len(own)
+    if further:
+        entries.append(swatch_entry(counted(further, "further bidder", "further bidders"), FURTHER))
+    return entries
+
+
+def bid_entries(asked: Asked, marks: Sequence[Mark], colours: Dict[str, str]) -> List[Entry]:
+    """The signs of bids that occur."""
+    colour = "#777777" if asked.bidder is None else colours[asked.bidder]
+    occurring = {(mark.dot.kind, mark.dot.weight < 0) for mark in marks}
+    return [_bid_entry(kind, is_negative, colour) for kind, is_negative in CALLED if (kind, is_negative) in occurring]
+
+
+def _bid_entry(kind: str, is_negative: bool, colour: str) -> Entry:
+    return Entry(lambda spot: sign(spot, 6, kind, is_negative, colour), CALLED[kind, is_negative])
+
+
+def other_notes(asked: Asked) -> List[str]:
+    """At which prices of the goods that aren't drawn the picture holds."""
+    if not asked.others or not isinstance(asked.outcome, Cleared):
+        return []
+    prices = asked.outcome.prices
+    told = ", ".join("%s %s" % (asked.shown.good(good), asked.shown.amount(prices[good])) for good in asked.others)
+    notes = ["At the printed prices of the other goods: %s. What the best of them leaves a bid is taken off its values." % told]
+    left = sum(asked.bidder in (None, bid.bidder) for bid in asked.auction.bids) - len(asked.dots)
+    if left:
+        notes.append("%s no good that is drawn." % counted(left, "bid offers to take", "bids offer to take"))
+    return notes
+
+
+def arrow(line: Line, colour: str) -> str:
+    """The head of an arrow in the middle of a line, which points to its end; none where the line is short."""
+    (x, y), (to_x, to_y) = line
+    length = math.hypot(to_x - x, to_y - y)
+    if length < 24:
+        return ""
+    right, down = (to_x - x) / length, (to_y - y) / length
+    tip = ((x + to_x) / 2 + 8 * right, (y + to_y) / 2 + 8 * down)
+    back = (tip[0] - 14 * right, tip[1] - 14 * down)
+    return polygon([tip, (back[0] - 7 * down, back[1] + 7 * right), (back[0] + 7 * down, back[1] - 7 * right)], colour)
+
+
+def counted(count: int, one: str, many: str) -> str:
+    return "%d %s" % (count, one if count == 1 else many)
+
+
+def signed(amount: str) -> str:
+    """An amount with a true minus, which is wider than a hyphen."""
+    return amount.replace("-", "\u2212")
+
+
+def sides(box: Box) -> List[Line]:
+    corners = [(box.left, box.top), (box.right, box.top), (box.right, box.bottom), (box.left, box.bottom)]
+    return list(zip(corners, [*corners[1:], corners[0]]))
+
+
+def is_near(price: int, prices: Sequence[int]) -> bool:
+    """Whether a price lies no farther out than the others reach; a place that shows a refusal may lie anywhere."""
+    return 2 * min(prices) - max(prices) - 10 <= price <= 2 * max(prices) + 10
