@@ -25,6 +25,7 @@ WORDS = {
     "session": "one outcome after another, while bids come and go",
     "upgrade": "an auction of format 1 and its outcome in format 2",
     "trial": "the summary of a large auction that is made from a number",
+    "draw": "a picture of an auction and its outcome",
     "many": "the outcomes of many auctions, one a line",
 }
 

@@ -99,7 +99,7 @@ class _Ladder:
         for bid, margin in zip(bids, margins):
             self.weights[margin] = self.weights.get(margin, 0) + bid.weight
         self.cap = cap
-        self.has_takers = any(bid.weight < 0 for bid in bids)
+        self.has_takers = any(bid.weight < 0 for bid, margin in zip(bids, margins) if margin == 0)
         self.at_the_price = units - self._above(0)
 
     def _above(self, margin: int) -> int:
@@ -118,7 +118,7 @@ class _Ladder:
         return PARTLY if above < self.cap else UNFILLED
 
     def _kind_at_the_price(self) -> str:
-        """Of bids that leave nothing: all are filled, none is, or some."""
+        """Of bids that leave nothing: all are filled, none is, or some; where some of them take back it isn't told."""
         if self.has_takers:
             return PARTLY
         if self.at_the_price == self.weights[0]:

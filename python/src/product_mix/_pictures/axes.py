@@ -121,6 +121,8 @@ def frame_of(ranges: Sequence[Range], is_given: bool, corner: Spot) -> Frame:
 def part_in(line: Line, box: Box) -> Optional[Line]:
     """The part of a line that lies in a box, sides included; None where there is none or a point alone."""
     (x, y), (to_x, to_y) = line
+    if line[0] == line[1]:
+        return None
     start, end = 0.0, 1.0
     for at, by, low, high in ((x, to_x - x, box.left, box.right), (y, to_y - y, box.top, box.bottom)):
         if by == 0:

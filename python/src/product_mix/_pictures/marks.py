@@ -1,11 +1,12 @@
 """The signs of a picture: bids by how they stand, the colours of their bidders, and where equal ones stand."""
 
 import math
+from html import escape
 from typing import Dict, List, NamedTuple, Sequence, Tuple
 
 from .._standing import FILLED, PARTLY, UNFILLED
 from .asked import OPEN, Dot
-from .svg import GROUND, INK, Spot, circle, element, polygon
+from .svg import GROUND, INK, Spot, circle, element, polygon, readable
 
 # Told apart by readers who are blind to red, to green or to blue, and by their lightness alone: the least light one is
 # that of indigo, the lightest that of sand.
@@ -78,6 +79,12 @@ def _in_rows(marks: List[Mark], most: "int | None") -> List[Mark]:
 
 # ---------------------------------------------------------------------------------------------------------------- shapes
 
+def named_sign(mark: Mark, told: str, colour: str, opacity: float) -> str:
+    """A bid's sign, which tells more where a pointer rests on it."""
+    drawn = sign(mark.spot, mark.radius, mark.dot.kind, mark.dot.weight < 0, colour, opacity)
+    return element("g", element("title", escape(readable(told))) + drawn, kind=mark.dot.kind)
+
+
 def sign(spot: Spot, radius: float, kind: str, is_negative: bool, colour: str, opacity: float = 1) -> str:
     """A bid's sign: a disc where it is filled or nothing is known, a half full diamond where it is so in part, an empty
     square where it isn't; a bar across it where its weight is negative."""
@@ -119,7 +126,7 @@ _SHAPES = {FILLED: _disc, OPEN: _disc, PARTLY: _diamond, UNFILLED: _square}
 
 #: What each sign is called in a legend.
 CALLED: Dict[Tuple[str, bool], str] = {
-    (OPEN, False): "bid, its area by its weight",
+    (OPEN, False): "bid",
     (OPEN, True): "bid of negative weight",
     (FILLED, False): "bid that is filled",
     (FILLED, True): "bid of negative weight that counts",

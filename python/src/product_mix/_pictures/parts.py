@@ -4,7 +4,7 @@ import math
 from typing import Dict, List, Sequence
 
 from .._outcome import Cleared, Refused
-from .asked import Asked
+from .asked import OPEN, Asked, Dot
 from .legend import Entry, swatch_entry
 from .marks import CALLED, FURTHER, Mark, sign
 from .svg import Box, Line, polygon
@@ -20,6 +20,15 @@ def mark_words(asked: Asked, prices: Sequence[int]) -> str:
     if isinstance(outcome, Refused):
         return "%s refused: %d" % (asked.shown.bidder(outcome.bidder), outcome.facet.weight)
     return "price %s" % ", ".join(map(asked.shown.amount, prices))
+
+
+def told_of(asked: Asked, dot: Dot) -> str:
+    """A bid in a line: its bidder, its weight, its values, and how it stands."""
+    shown = asked.shown
+    values = ["%s %s" % (shown.good(good), shown.amount(value)) for good, value in zip(asked.goods, dot.values)
+              if value is not None]
+    kind = "" if dot.kind == OPEN else ": " + CALLED[dot.kind, dot.weight < 0]
+    return "%s, %d, %s%s" % (shown.bidder(dot.bidder), dot.weight, " or ".join(values), kind)
 
 
 def bidder_entries(asked: Asked, marks: Sequence[Mark], colours: Dict[str, str]) -> List[Entry]:

@@ -9,10 +9,10 @@ from .axes import SIDE, Frame, Range, frame_of, range_of
 from .facets import BOTH, FIRST, Facet, Unit, facets_of, wanted
 from .labels import Labels, along, around, spots_by_depth
 from .legend import Entry, legend, line_entry, words_entry
-from .marks import Mark, colours_of, cross, opacity_of, radii, sign, spread
+from .marks import Mark, colours_of, cross, named_sign, opacity_of, radii, spread
 from .parts import (
     PRICE_WIDTH, RESERVE_DASHES, TRAIL_COLOUR, TRAIL_WIDTH, arrow, bid_entries, bidder_entries, counted, is_near, mark_words,
-    other_notes, sides, signed,
+    other_notes, sides, signed, told_of,
 )
 from .svg import (
     FAINT, FONT, INK, SMALL, STRIP_GROUND, Box, Line, Spot, circle, document, rectangle, stroke, words,
@@ -68,11 +68,11 @@ class _Plane:
         prices = self._price_lines()
         trail = self._trail()
         parts = [*self._ground(), *self._reserves()]
-        parts += [stroke(line, INK, FACET_WIDTH, None if weight > 0 else NEGATIVE_DASHES) for line, weight in facets]
-        parts += [stroke(line, INK, PRICE_WIDTH) for line in prices]
+        parts += [stroke(line, INK, FACET_WIDTH, None if weight > 0 else NEGATIVE_DASHES, "change") for line, weight in facets]
+        parts += [stroke(line, INK, PRICE_WIDTH, kind="price") for line in prices]
         parts += self._trail_parts(trail)
         opacity = opacity_of(len(marks))
-        parts += [sign(mark.spot, mark.radius, mark.dot.kind, mark.dot.weight < 0, self.colours[mark.dot.bidder], opacity)
+        parts += [named_sign(mark, told_of(self.asked, mark.dot), self.colours[mark.dot.bidder], opacity)
                   for mark in sorted(marks, key=lambda mark: -mark.radius)]
         parts += self._cross()
         self._write_labels(marks, facets, prices)
@@ -157,7 +157,7 @@ class _Plane:
 
     def _reserves(self) -> List[str]:
         """The reserves as dotted lines, each with its number at its end."""
-        parts = [stroke(line, INK, 1.3, RESERVE_DASHES) for line in self._reserve_lines()]
+        parts = [stroke(line, INK, 1.3, RESERVE_DASHES, "reserve") for line in self._reserve_lines()]
         first, second = self.asked.reserves
         frame, amount = self.frame, self.asked.shown.amount
         if frame.across.has(first):
@@ -197,7 +197,7 @@ class _Plane:
         return [step for step in steps if step is not None]
 
     def _trail_parts(self, trail: Sequence[Line]) -> List[str]:
-        parts = [stroke(step, TRAIL_COLOUR, TRAIL_WIDTH) for step in trail]
+        parts = [stroke(step, TRAIL_COLOUR, TRAIL_WIDTH, kind="trail") for step in trail]
         parts += [arrow(step, TRAIL_COLOUR) for step in trail]
         if self.asked.trail is not None and self.frame.has(self.asked.reserves):
             parts.append(circle(self.frame.spot(self.asked.reserves), 4.5, TRAIL_COLOUR, INK, 1))
@@ -325,6 +325,8 @@ class _Plane:
             notes.append("Under a cap of %s." % counted(asked.cap, "unit", "units"))
         elif asked.bidder is None and any(mark.dot.bidder in asked.auction.caps for mark in marks) and asked.prices:
             notes.append("Bidders with a cap get no more than that, so their bids may be unfilled anywhere.")
+        if len({mark.radius for mark in marks}) > 1:
+            notes.append("The area of a bid's sign is by its weight.")
         notes += other_notes(asked)
         if self.mark is not None and not self.frame.has(self.mark):
             notes.append("%s, at prices that the axes don't show: %s." % (

@@ -8,10 +8,10 @@ from .asked import OPEN, Asked, Dot
 from .axes import Frame, Range, axis_up, range_of
 from .labels import Labels, around
 from .legend import Entry, legend, line_entry
-from .marks import Mark, colours_of, cross, opacity_of, sign
+from .marks import Mark, colours_of, cross, named_sign, opacity_of
 from .parts import (
     PRICE_WIDTH, RESERVE_DASHES, TRAIL_COLOUR, TRAIL_WIDTH, arrow, bid_entries, bidder_entries, counted, is_near, mark_words,
-    other_notes, sides, signed,
+    other_notes, sides, signed, told_of,
 )
 from .svg import (
     FAINT, FONT, INK, SMALL, Box, Line, Spot, circle, document, rectangle, stroke, words,
@@ -108,8 +108,7 @@ class _Stairs:
         marks = self._marks()
         opacity = opacity_of(len(marks))
         parts = [*self._columns(), *self._grid(), *self._lines()]
-        parts += [sign(mark.spot, mark.radius, mark.dot.kind, mark.dot.weight < 0, self.colours[mark.dot.bidder], opacity)
-                  for mark in marks]
+        parts += [named_sign(mark, told_of(self.asked, mark.dot), self.colours[mark.dot.bidder], opacity) for mark in marks]
         parts += self._cross()
         self._write_labels(marks)
         entries, bottom = legend(self._entries(marks), self._notes(marks), LEFT, WIDTH - 14, BOTTOM + 76)
@@ -191,10 +190,10 @@ class _Stairs:
         return [] if self.asked.prices is None else self._across(self.asked.prices[0])
 
     def _lines(self) -> List[str]:
-        parts = [stroke(line, INK, 1.3, RESERVE_DASHES) for line in self._across(self.asked.reserves[0])]
-        parts += [stroke(line, INK, STAIRS_WIDTH) for line in self._stair_lines()]
-        parts += [stroke(line, INK, PRICE_WIDTH, SUPPLY_DASHES) for line in self._supply_lines()]
-        parts += [stroke(line, INK, PRICE_WIDTH + 1.5) for line in self._price_lines()]
+        parts = [stroke(line, INK, 1.3, RESERVE_DASHES, "reserve") for line in self._across(self.asked.reserves[0])]
+        parts += [stroke(line, INK, STAIRS_WIDTH, kind="demand") for line in self._stair_lines()]
+        parts += [stroke(line, INK, PRICE_WIDTH, SUPPLY_DASHES, "supply") for line in self._supply_lines()]
+        parts += [stroke(line, INK, PRICE_WIDTH + 1.5, kind="price") for line in self._price_lines()]
         parts += self._trail_parts()
         return parts
 
@@ -207,7 +206,7 @@ class _Stairs:
     def _trail_parts(self) -> List[str]:
         parts = []
         for step in self._trail():
-            parts += [stroke(step, TRAIL_COLOUR, TRAIL_WIDTH), arrow(step, TRAIL_COLOUR)]
+            parts += [stroke(step, TRAIL_COLOUR, TRAIL_WIDTH, kind="trail"), arrow(step, TRAIL_COLOUR)]
         reserve = self.asked.reserves[0]
         if self.asked.trail is not None and self.frame.up.has(reserve):
             parts.append(circle(self.frame.spot((self.frame.across.low, reserve)), 4.5, TRAIL_COLOUR, INK, 1))

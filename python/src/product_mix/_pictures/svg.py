@@ -3,7 +3,7 @@
 import re
 import unicodedata
 from html import escape
-from typing import NamedTuple, Sequence, Tuple, Union
+from typing import NamedTuple, Optional, Sequence, Tuple, Union
 
 #: A place in the picture: pixels to the right and down.
 Spot = Tuple[float, float]
@@ -15,7 +15,10 @@ Value = Union[str, float, None]
 INK, GROUND, FAINT, STRIP_GROUND = "#222222", "#ffffff", "#dddddd", "#eeeeee"
 FONT, SMALL = 14, 12
 # How wide a letter is, as a part of the size of the font.
-LETTER = 0.6
+LETTER = 0.62
+
+# What the classes of elements begin with; no style is said of them, they tell what is what.
+CLASS = "mix-"
 
 # What no XML may hold, though a name in a file of names may.
 _FORBIDDEN = re.compile("[^\t\n\r\x20-\ud7ff\ue000-\ufffd\U00010000-\U0010ffff]")
@@ -45,9 +48,9 @@ def readable(content: str) -> str:
     return _FORBIDDEN.sub("\ufffd", content)
 
 
-def element(tag: str, content: str = "", **attributes: Value) -> str:
-    """An element; the underscores in the names of its attributes stand for hyphens."""
-    said = ""
+def element(tag: str, content: str = "", kind: Optional[str] = None, **attributes: Value) -> str:
+    """An element; the underscores in the names of its attributes stand for hyphens. Its kind is its class."""
+    said = "" if kind is None else ' class="%s%s"' % (CLASS, kind)
     for name, value in attributes.items():
         if value is not None:
             told = value if isinstance(value, str) else number(value)
@@ -64,10 +67,10 @@ def words(spot: Spot, content: str, size: int = FONT, anchor: str = "middle", we
                    font_style=style, transform=turn, fill=fill)
 
 
-def stroke(line: Line, colour: str = INK, width: float = 1, dashes: Value = None) -> str:
+def stroke(line: Line, colour: str = INK, width: float = 1, dashes: Value = None, kind: Optional[str] = None) -> str:
     """A straight line."""
     (x1, y1), (x2, y2) = line
-    return element("line", x1=x1, y1=y1, x2=x2, y2=y2, stroke=colour, stroke_width=width, stroke_dasharray=dashes)
+    return element("line", kind=kind, x1=x1, y1=y1, x2=x2, y2=y2, stroke=colour, stroke_width=width, stroke_dasharray=dashes)
 
 
 def rectangle(box: Box, fill: str, edge: Value = None, opacity: Value = None) -> str:
