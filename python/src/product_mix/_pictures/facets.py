@@ -113,33 +113,34 @@ def _levels(units: Sequence[Unit], place: int) -> Dict[int, _Level]:
 def _places(units: Sequence[Unit], cap: Optional[int]) -> Set[int]:
     """By how much the first good may cost more where units change from one to the other.
 
-    That is the difference of a bid's two values; or, under a cap, where the last unit that is served by the first good
-    leaves as much as one by the second.
+    That is the difference of a bid's two values; or, under a cap, where a unit by the first good and one by the second
+    leave as much as the last unit that is served.
     """
     places = {first - second for first, second, _ in units if first is not None and second is not None}
     if cap is not None:
+        firsts = {first for first, _, _ in units if first is not None}
         for level in {second for _, second, _ in units if second is not None}:
-            # Those of the level are served before the others, or after them.
-            places |= _last_served(units, cap, level, level)
-            places |= _last_served(units, cap, level, level + 1)
+            # The last unit leaves more as the first good gets cheaper: here no more than the level, here no less.
+            low, high = _last_place(units, cap, level, level + 1), _last_place(units, cap, level, level)
+            places |= {first - level for first in firsts if low <= first - level <= high}
     return places
 
 
-def _last_served(units: Sequence[Unit], cap: int, level: int, bar: int) -> Set[int]:
-    """Where the last unit served leaves by the first good what a second value of this level leaves.
+def _last_place(units: Sequence[Unit], cap: int, level: int, bar: int) -> float:
+    """By how much the first good may cost more at most where the last unit served leaves what the level leaves.
 
     Units with a second value at or above the bar are served before it.
     """
     room = cap - sum(weight for _, second, weight in units if second is not None and second >= bar)
+    if room <= 0:
+        return math.inf
     others = [(first, weight) for first, second, weight in units
               if first is not None and (second is None or second < bar)]
     for first, weight in sorted(others, reverse=True):
-        if room <= 0:
-            break
         room -= weight
         if room <= 0:
-            return {first - level}
-    return set()
+            return first - level
+    return -math.inf
 
 
 # --------------------------------------------------------------------------------------------------------- stretches
