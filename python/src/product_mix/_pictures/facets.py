@@ -67,10 +67,10 @@ def _slanted(units: Sequence[Unit], cap: Optional[int]) -> Iterator[Facet]:
         room: float = math.inf if cap is None else cap
         total = 0
         levels = _levels(units, place)
-        for level in sorted(levels, reverse=True):
+        falling = sorted(levels, reverse=True)
+        for level, lower in zip(falling, [*falling[1:], -math.inf]):
             total += levels[level].change(room)
             room -= levels[level].weight
-            lower = max([other for other in levels if other < level], default=-math.inf)
             stretches.append((lower, float(level), total))
         for low, high, weight in _joined(stretches[::-1]):
             yield Facet(BOTH, place, low, high, weight)
@@ -213,11 +213,13 @@ def wanted(units: Sequence[Unit], cap: Optional[int], prices: Sequence[float]) -
 
 def _served(unit: Unit, prices: Sequence[float]) -> Optional[_Served]:
     """What a unit leaves and takes, or None where it is torn between a good and nothing."""
-    *values, weight = unit
-    gains = [-math.inf if value is None else value - price for value, price in zip(values, prices)]
-    if max(gains) == 0:
-        return None
-    return _Served(max(gains), None if gains[0] == gains[1] else gains.index(max(gains)), weight)
+    first = -math.inf if unit[0] is None else unit[0] - prices[0]
+    second = -math.inf if unit[1] is None else unit[1] - prices[1]
+    if first > second:
+        return _Served(first, 0, unit[2]) if first else None
+    if second > first:
+        return _Served(second, 1, unit[2]) if second else None
+    return _Served(first, None, unit[2]) if first else None
 
 
 def _by_gain(served: Sequence[_Served]) -> List[List[_Served]]:

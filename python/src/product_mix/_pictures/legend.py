@@ -5,7 +5,7 @@ from typing import Callable, List, NamedTuple, Sequence, Tuple
 from .svg import INK, SMALL, Box, Spot, rectangle, stroke, width_of, words
 
 # How far apart the rows of a legend stand, how wide a sign is, and how far apart two entries.
-ROW, SIGN, APART = 21, 24, 18
+ROW, SIGN, APART = 21, 30, 16
 
 
 class Entry(NamedTuple):
@@ -38,7 +38,7 @@ def legend(groups: Sequence[Sequence[Entry]], notes: Sequence[str], left: float,
             width = SIGN + width_of(entry.text, SMALL)
             if x > left and x + width > right:
                 x, y = left, y + ROW
-            parts += [entry.draw((x + 9, y)), words((x + SIGN, y + 4), entry.text, SMALL, anchor="start")]
+            parts += [entry.draw((x + 12, y)), words((x + SIGN, y + 4), entry.text, SMALL, anchor="start")]
             x += width + APART
         y += ROW if group else 0
     for note in notes:

@@ -7,7 +7,7 @@ from .._outcome import Cleared, Refused
 from .asked import OPEN, Asked, Dot
 from .legend import Entry, swatch_entry
 from .marks import CALLED, FURTHER, Mark, sign
-from .svg import Box, Line, polygon
+from .svg import SMALL, Box, Line, polygon, width_of, words
 
 RESERVE_DASHES = "2 4"
 TRAIL_COLOUR = "#888888"
@@ -67,6 +67,12 @@ def other_notes(asked: Asked) -> List[str]:
     if left:
         notes.append("%s no good that is drawn." % counted(left, "bid offers to take", "bids offer to take"))
     return notes
+
+
+def beside(content: str, box: Box, y: float) -> str:
+    """A text that stands turned to the right of the plane, at a height, and not on the numbers under it."""
+    half = width_of(content, SMALL) / 2
+    return words((box.right + 16, min(max(y, box.top + half), box.bottom - half)), content, SMALL, turned=True)
 
 
 def arrow(line: Line, colour: str) -> str:

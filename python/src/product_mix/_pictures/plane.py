@@ -11,8 +11,8 @@ from .labels import Labels, along, around, spots_by_depth
 from .legend import Entry, legend, line_entry, words_entry
 from .marks import Mark, colours_of, cross, named_sign, opacity_of, radii, spread
 from .parts import (
-    PRICE_WIDTH, RESERVE_DASHES, TRAIL_COLOUR, TRAIL_WIDTH, arrow, bid_entries, bidder_entries, counted, is_near, mark_words,
-    other_notes, sides, signed, told_of,
+    PRICE_WIDTH, RESERVE_DASHES, TRAIL_COLOUR, TRAIL_WIDTH, arrow, beside, bid_entries, bidder_entries, counted, is_near,
+    mark_words, other_notes, sides, signed, told_of,
 )
 from .svg import (
     FAINT, FONT, INK, SMALL, STRIP_GROUND, Box, Line, Spot, circle, document, rectangle, stroke, words,
@@ -31,7 +31,7 @@ NEGATIVE_DASHES = "9 5"
 FACET_WIDTH = 2
 
 # Regions are found in so many columns and rows, fewer where there are many bids; so many of them are named at most.
-CELLS, FEW_CELLS, MANY_BIDS = 80, 40, 60
+CELLS, FEW_CELLS, MANY_BIDS = 80, 40, 25
 MOST_REGIONS = 40
 # So many bids are named at most, the heaviest first.
 MOST_NAMED = 60
@@ -163,7 +163,7 @@ class _Plane:
         if frame.across.has(first):
             parts.append(words((frame.across.at(first), frame.box.top - 7), "reserve %s" % amount(first), SMALL))
         if frame.up.has(second):
-            parts.append(words((frame.box.right + 16, frame.up.at(second)), "reserve %s" % amount(second), SMALL, turned=True))
+            parts.append(beside("reserve %s" % amount(second), frame.box, frame.up.at(second)))
         return parts
 
     # ---------------------------------------------------------------------------------------------------------- the prices
@@ -332,8 +332,8 @@ class _Plane:
             notes.append("%s, at prices that the axes don't show: %s." % (
                 self._mark_words(), ", ".join(map(asked.shown.amount, self.mark))))
         if self.labels.left_out:
-            notes.append("%s no room: lines before bids, and bids of many units before those of few, are named first."
-                         % counted(self.labels.left_out, "label had", "labels had"))
+            notes.append("%s no room: prices go first, then regions, lines, and bids, the heaviest first." % counted(
+                self.labels.left_out, "label had", "labels had"))
         return notes
 
 
@@ -345,10 +345,10 @@ def _strip_sign(spot: Spot) -> str:
 
 
 def _mark_of(asked: Asked) -> Optional[Tuple[int, ...]]:
-    """The prices of the outcome, or those that show why a list was refused."""
+    """The prices of the outcome, or those that show why a list was refused; without an outcome the end of the trail."""
     if isinstance(asked.outcome, Refused):
         return asked.of(asked.outcome.facet.prices)
-    return asked.prices
+    return asked.points()[-1] if asked.outcome is None and asked.trail is not None else asked.prices
 
 
 def _frame(asked: Asked, mark: Optional[Tuple[int, ...]]) -> Frame:
@@ -364,7 +364,7 @@ def _range(asked: Asked, mark: Optional[Tuple[int, ...]], at: int) -> Range:
     values = [dot.values[at] for dot in asked.dots]
     prices = [value for value in values if value is not None] + [asked.reserves[at]]
     prices += [point[at] for point in asked.points()]
-    if mark is not None and (asked.prices is not None or is_near(mark[at], prices)):
+    if mark is not None and (not isinstance(asked.outcome, Refused) or is_near(mark[at], prices)):
         prices.append(mark[at])
     return range_of(prices)
 

@@ -10,8 +10,8 @@ from .labels import Labels, around
 from .legend import Entry, legend, line_entry
 from .marks import Mark, colours_of, cross, named_sign, opacity_of
 from .parts import (
-    PRICE_WIDTH, RESERVE_DASHES, TRAIL_COLOUR, TRAIL_WIDTH, arrow, bid_entries, bidder_entries, counted, is_near, mark_words,
-    other_notes, sides, signed, told_of,
+    PRICE_WIDTH, RESERVE_DASHES, TRAIL_COLOUR, TRAIL_WIDTH, arrow, beside, bid_entries, bidder_entries, counted, is_near,
+    mark_words, other_notes, sides, signed, told_of,
 )
 from .svg import (
     FAINT, FONT, INK, SMALL, Box, Line, Spot, circle, document, rectangle, stroke, words,
@@ -96,7 +96,7 @@ class _Stairs:
     def _frame(self) -> Frame:
         units = [0, *[step.end for step in self.steps], *([] if self.asked.bidder else [self.supply])]
         prices = [step.value for step in self.steps] + [self.asked.reserves[0]] + [at for at, in self.asked.points()]
-        if self.mark is not None and (self.asked.prices is not None or is_near(self.mark, prices)):
+        if self.mark is not None and (not isinstance(self.asked.outcome, Refused) or is_near(self.mark, prices)):
             prices.append(self.mark)
         shown: Range = self.asked.spans[0] if self.asked.spans is not None else range_of(prices)
         return Frame(axis_up(range_of(units), LEFT, RIGHT), axis_up(shown, BOTTOM, TOP), False)
@@ -187,7 +187,8 @@ class _Stairs:
         return [line for line in lines if line is not None]
 
     def _price_lines(self) -> List[Line]:
-        return [] if self.asked.prices is None else self._across(self.asked.prices[0])
+        """The price, unless it is the place of a refusal."""
+        return [] if self.mark is None or isinstance(self.asked.outcome, Refused) else self._across(self.mark)
 
     def _lines(self) -> List[str]:
         parts = [stroke(line, INK, 1.3, RESERVE_DASHES, "reserve") for line in self._across(self.asked.reserves[0])]
@@ -249,8 +250,7 @@ class _Stairs:
             said = "supply %d" % self.supply
             labels.put(said, [(x + side * 48, frame.box.top + 14 + 20 * down) for down in range(6) for side in (1, -1)], SMALL)
         for line in self._across(self.asked.reserves[0]):
-            said = "reserve %s" % amount(self.asked.reserves[0])
-            self.labels.drawn.append(words((line[1][0] + 16, line[1][1]), said, SMALL, turned=True))
+            self.labels.drawn.append(beside("reserve %s" % amount(self.asked.reserves[0]), frame.box, line[1][1]))
         self._name_steps(marks)
 
     def _name_steps(self, marks: Sequence[Mark]) -> None:
@@ -297,8 +297,10 @@ class _Stairs:
 
 
 def _mark_of(asked: Asked) -> Optional[int]:
-    """The price of the outcome, or the one that shows why a list was refused."""
+    """The price of the outcome, or the one that shows why a list was refused; without an outcome the end of the trail."""
     if isinstance(asked.outcome, Refused):
         return asked.of(asked.outcome.facet.prices)[0]
+    if asked.outcome is None and asked.trail is not None:
+        return asked.points()[-1][0]
     return None if asked.prices is None else asked.prices[0]
 
