@@ -38,6 +38,17 @@ def test_bids_at_the_price() -> None:
     assert kinds(auction, "Ben") == [(FILLED, {})] and kinds(auction, "Cai") == [(UNFILLED, {"A": 5})]
 
 
+def test_bids_at_the_price_beside_some_that_take_back() -> None:
+    """Cleo of the tutorial gets one outside: her bids above the price make that one unit, so the one at it is unfilled.
+
+    Where the one that takes back is at its price itself, how much of each is filled isn't told.
+    """
+    auction = Auction.read(STALLS)
+    assert [kind for kind, _ in kinds(auction, "Cleo")] == [UNFILLED, FILLED, FILLED, FILLED]
+    torn_back = Auction(["A"], [9], [5]).bid("Ada", 3, A=5).bid("Ada", -1, A=5)
+    assert [kind for kind, _ in kinds(torn_back, "Ada")] == [PARTLY, PARTLY]
+
+
 def test_bids_under_a_cap() -> None:
     """Three units at 9 are served before two at 7, whatever a unit costs; with another good one may be cheap enough."""
     bids = [Bid("Ida", [9, None], 3), Bid("Ida", [7, None], 2), Bid("Ida", [None, 6], 1), Bid("Jon", [5, 3], 9)]
@@ -107,7 +118,8 @@ Bo has 1 of inside and could have no more: of inside and outside together it wan
 1 unit of outside must go to it, as the others can't take more.
 """
     told = run("explain", STALLS, "--bidder", "Cleo")[1]
-    assert "at the edge, as inside or nothing are as good for it" in told and "it takes back outside, which leaves 2 a unit" in told
+    assert "not filled; it would be if inside cost less than 16" in told and "it takes back outside, which leaves 2 a unit" in told
+    assert "at the edge, as permit or nothing are as good for it" in run("explain", example("shared-tie"))[1]
 
 
 def test_all_bidders(run: Run) -> None:

@@ -208,7 +208,7 @@ def lists(seed: int) -> "Tuple[List[Unit], Optional[int]]":
     return units, None if seed % 3 == 0 or total < 2 else draw.randint(0, total)
 
 
-@pytest.mark.parametrize("seed", range(300))
+@pytest.mark.parametrize("seed", range(120))
 def test_changes_of_mind_against_a_plain_search(seed: int) -> None:
     """Between points at which no good is as good as another, what is wanted changes by the facets that are crossed."""
     units, cap = lists(seed)

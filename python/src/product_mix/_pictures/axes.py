@@ -60,7 +60,7 @@ def range_of(prices: Sequence[int]) -> Range:
     """From where to where an axis shows these prices: whole steps, from 0 unless all are far above it or some below.
 
     >>> range_of([10, 40, 24]), range_of([900, 940]), range_of([]), range_of([-3, 5])
-    ((0, 45), (890, 950), (0, 1), (-4, 6))
+    ((0, 50), (890, 950), (0, 1), (-4, 6))
     """
     least, most = min(prices, default=0), max(prices, default=1)
     if 0 <= least <= most * FAR:
