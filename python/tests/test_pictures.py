@@ -83,6 +83,28 @@ def test_two_goods_of_three() -> None:
     assert "At the printed prices of the other goods: C 1." in told and "1 bid offers to take no good that is drawn." in told
 
 
+def test_one_good_of_three() -> None:
+    """X is worth 5 by A and has 4 left by B, which costs 2: so it takes A below 1. Y takes it below 7, Z never."""
+    svg = picture(THREE, THREE_CLEARED, goods=["A"], span=[(0, 10)])
+    # Two units and one for sale: u goes from 0 to 3 at 460 / 3 pixels for a unit.
+    assert [line for line in geometry(svg) if line.startswith(("filled", "unfilled"))] == [
+        "filled X 316 366 r 9", "filled Y 162.7 162 r 9"]
+    told = " ".join(texts(svg))
+    assert "At the printed prices of the other goods: B 2, C 1." in told
+    assert "A bid that is filled where it would take no good that is drawn gets another." in told
+
+
+def test_one_good_under_a_cap_that_others_use_up() -> None:
+    """A unit of C leaves P 3, and the cap is 1: so P takes a unit of A, worth 8, below 5, and the one worth 6 never."""
+    auction = Auction(["A", "C"], [2, 1], [0, 0], [Bid("P", [8, None]), Bid("P", [6, None]), Bid("P", [None, 4])], {"P": 1})
+    cleared = Cleared({"A": 4, "C": 1}, {"P": Share({"A": 1, "C": 0}, 4)}, {"A": 1, "C": 1}, ())
+    svg = picture(auction, cleared, goods=["A"], span=[(0, 10)])
+    # One step, 1 of 3 units wide, and at 5: 400 - 34 * 5.
+    assert [line for line in geometry(svg) if line.startswith(("filled", "unfilled", "partly"))] == ["filled P 162.7 230 r 9"]
+    for price, taken in ((4.5, 1), (5.5, 0)):
+        assert served([(8, None, 1), (6, None, 1), (None, 3, 1)], 1, (price, 0))[0] == taken
+
+
 def test_goods_the_other_way_round() -> None:
     """The first that is named stands on the axis across: X at 3 for B and 2 for A."""
     svg = picture(THREE, THREE_CLEARED, goods=["B", "A"], span=[(0, 11)])

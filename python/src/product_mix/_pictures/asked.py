@@ -73,6 +73,13 @@ class Asked:
         """Of amounts by good those of the goods that are drawn."""
         return tuple(amounts[good] for good in self.goods)
 
+    def units_of(self, bidder: str) -> "List[Tuple[Optional[int], Optional[int], int]]":
+        """Of each bid its value for the first good that is drawn, what it gains by goods that aren't, or None where that is
+        nothing, and its weight."""
+        place = self.auction.goods.index(self.goods[0])
+        return [(bid.values[place], _rest(bid, self.auction, self.outcome, self.goods) or None, bid.weight)
+                for bid in self.auction.bids if bid.bidder == bidder]
+
     def points(self) -> List[Tuple[int, ...]]:
         """The prices of the trail, of the goods that are drawn."""
         return [] if self.trail is None else [self.of(prices) for prices in self.trail.points(self.auction)]
@@ -224,8 +231,8 @@ def _dots(auction: Auction, outcome: Union[Cleared, Refused, None], bidder: Opti
     dots = []
     for at, bid in enumerate(auction.bids):
         rest = _rest(bid, auction, outcome, goods)
-        if rest and bid.bidder == bidder and bidder in auction.caps:
-            raise FormError("%s has a cap and gains by other goods: what it wants of these alone isn't drawn" % bidder)
+        if rest and len(goods) > 1 and bid.bidder == bidder and bidder in auction.caps:
+            raise FormError("%s has a cap and gains by other goods: what it wants of these two alone isn't drawn" % bidder)
         values = tuple(_less(bid.values[place], rest) for place in places)
         if bidder in (None, bid.bidder) and any(value is not None for value in values):
             dots.append(Dot(bid.bidder, values, bid.weight, kinds[at]))

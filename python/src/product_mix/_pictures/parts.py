@@ -1,9 +1,10 @@
 """What the pictures of one good and of two share."""
 
 import math
-from typing import Dict, List, Sequence
+from typing import Dict, List, Optional, Sequence
 
 from .._outcome import Cleared, Refused
+from .._standing import FILLED
 from .asked import OPEN, Asked, Dot
 from .legend import Entry, swatch_entry
 from .marks import CALLED, FURTHER, Mark, sign
@@ -62,11 +63,19 @@ def other_notes(asked: Asked) -> List[str]:
         return []
     prices = asked.outcome.prices
     told = ", ".join("%s %s" % (asked.shown.good(good), asked.shown.amount(prices[good])) for good in asked.others)
-    notes = ["At the printed prices of the other goods: %s. What the best of them leaves a bid is taken off its values." % told]
+    notes = ["At the printed prices of the other goods: %s." % told,
+             "What the best of them leaves a bid is taken off its values."]
+    if any(dot.kind == FILLED and _takes_none(dot, asked.prices) for dot in asked.dots):
+        notes.append("A bid that is filled where it would take no good that is drawn gets another.")
     left = sum(asked.bidder in (None, bid.bidder) for bid in asked.auction.bids) - len(asked.dots)
     if left:
         notes.append("%s no good that is drawn." % counted(left, "bid offers to take", "bids offer to take"))
     return notes
+
+
+def _takes_none(dot: Dot, prices: Optional[Sequence[int]]) -> bool:
+    """Whether a bid takes no good that is drawn: each costs more than what is left of its value."""
+    return prices is not None and all(value is None or value < price for value, price in zip(dot.values, prices))
 
 
 def beside(content: str, box: Box, y: float) -> str:

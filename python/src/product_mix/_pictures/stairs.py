@@ -6,6 +6,7 @@ from .._outcome import Refused
 from .._standing import FILLED, PARTLY, UNFILLED
 from .asked import OPEN, Asked, Dot
 from .axes import Frame, Range, axis_up, range_of
+from .facets import SECOND, Unit, facets_of
 from .labels import Labels, around
 from .legend import Entry, legend, line_entry
 from .marks import Mark, colours_of, cross, named_sign, opacity_of
@@ -45,8 +46,8 @@ def stairs_of(asked: Asked) -> str:
 
 def steps_of(asked: Asked) -> List[Step]:
     """The steps of demand: bids by their values, the greatest first, each bidder's as far as its cap goes."""
-    blocks = [block for name in asked.auction.bidders
-              for block in _blocks([dot for dot in asked.dots if dot.bidder == name], asked.auction.caps.get(name))]
+    names = asked.auction.bidders if asked.bidder is None else [asked.bidder]
+    blocks = [block for name in names for block in _blocks_of(asked, name)]
     places = {name: at for at, name in enumerate(asked.auction.tie_order)}
     steps: List[Step] = []
     units = 0
@@ -54,6 +55,35 @@ def steps_of(asked: Asked) -> List[Step]:
         steps.append(Step(dot, value, units, units + dot.weight))
         units += dot.weight
     return steps
+
+
+def _blocks_of(asked: Asked, name: str) -> List[Tuple[int, Dot]]:
+    """What a bidder adds to demand: at which prices of the good, and how many units."""
+    cap = asked.auction.caps.get(name)
+    units = asked.units_of(name)
+    if cap is None or all(rest is None for _, rest, _ in units):
+        return _blocks([dot for dot in asked.dots if dot.bidder == name], cap)
+    return _blocks_beside_others(asked, name, units, cap)
+
+
+def _blocks_beside_others(asked: Asked, name: str, units: Sequence[Unit], cap: int) -> List[Tuple[int, Dot]]:
+    """The steps of a bidder whose cap other goods use up too, at their printed prices.
+
+    They are its changes of mind where a second good costs nothing, and is worth to each bid what the others leave it. A step
+    is then of no one bid; it is filled where it is above the price.
+    """
+    blocks = []
+    for facet in facets_of(units, cap):
+        if facet.kind != SECOND and facet.low < 0 < facet.high:
+            kind = _kind_at(facet.place, asked.prices)
+            blocks.append((facet.place, Dot(name, (facet.place,), facet.weight, kind)))
+    return blocks
+
+
+def _kind_at(value: int, prices: Optional[Tuple[int, ...]]) -> str:
+    if prices is None:
+        return OPEN
+    return PARTLY if value == prices[0] else FILLED if value > prices[0] else UNFILLED
 
 
 def _blocks(dots: Sequence[Dot], cap: Optional[int]) -> List[Tuple[int, Dot]]:
@@ -87,7 +117,10 @@ class _Stairs:
         self.asked = asked
         self.good = asked.shown.good(asked.goods[0])
         self.colours = colours_of(asked.auction.bidders)
-        self.steps = steps_of(asked)
+        steps = steps_of(asked)
+        # No price is below 0, so whoever is worth less than that by this good takes another at any price of it.
+        self.steps = [step for step in steps if step.value >= 0]
+        self.below = len(steps) - len(self.steps)
         self.supply = asked.auction.supply[asked.auction.goods.index(asked.goods[0])]
         self.mark = _mark_of(asked)
         self.frame = self._frame()
@@ -283,6 +316,8 @@ class _Stairs:
         if len(marks) < len(self.steps):
             notes.append("%s outside of what the axes show." % counted(
                 len(self.steps) - len(marks), "step lies", "steps lie"))
+        if self.below:
+            notes.append("%s it at no price, as other goods leave more." % counted(self.below, "bid takes", "bids take"))
         capped = [name for name in self.asked.auction.caps if self.asked.bidder in (None, name)]
         if capped:
             notes.append("Of a bidder with a cap only as many units are drawn as its cap allows.")

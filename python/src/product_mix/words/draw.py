@@ -29,8 +29,8 @@ def add_to(parser: argparse.ArgumentParser) -> None:
     parser.add_argument("auction", metavar="AUCTION", help="the text of an auction; - for standard input")
     add_outcome(parser)
     parser.add_argument("--bidder", metavar="NAME", help="draw this bidder's bids alone, and what it wants")
-    parser.add_argument("--goods", metavar="A,B", help="the one or two goods that are drawn; the others stand at their printed "
-                        "prices")
+    parser.add_argument("--goods", metavar="A,B",
+                        help="the one or two goods that are drawn; the others stand at their printed prices")
     parser.add_argument("--range", dest="span", metavar="LOW:HIGH", help="from which to which price the axes go; or "
                         "LOW:HIGH,LOW:HIGH, one for each. Before a price below 0 stands --range=")
     way = parser.add_mutually_exclusive_group()
