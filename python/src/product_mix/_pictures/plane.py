@@ -1,5 +1,6 @@
 """Two goods in the plane of their prices."""
 
+import math
 from typing import Callable, Dict, Iterator, List, Optional, Sequence, Tuple
 
 from .._outcome import Refused
@@ -28,11 +29,14 @@ STRIP, GAP = 26, 8
 NUMBERS = 8
 
 NEGATIVE_DASHES = "9 5"
-FACET_WIDTH = 2
+# With more lines than these they are thin.
+FACET_WIDTH, THIN_WIDTH, MANY_FACETS = 2, 0.6, 60
 
 # Regions are found in so many columns and rows, fewer where there are many bids; so many of them are named at most.
 CELLS, FEW_CELLS, MANY_BIDS = 80, 40, 25
 MOST_REGIONS = 40
+# So many lines have their weight written on them at most, the longest first.
+MOST_CHANGES = 80
 # So many bids are named at most, the heaviest first.
 MOST_NAMED = 60
 
@@ -68,7 +72,8 @@ class _Plane:
         prices = self._price_lines()
         trail = self._trail()
         parts = [*self._ground(), *self._reserves()]
-        parts += [stroke(line, INK, FACET_WIDTH, None if weight > 0 else NEGATIVE_DASHES, "change") for line, weight in facets]
+        width = FACET_WIDTH if len(facets) <= MANY_FACETS else THIN_WIDTH
+        parts += [stroke(line, INK, width, None if weight > 0 else NEGATIVE_DASHES, "change") for line, weight in facets]
         parts += [stroke(line, INK, PRICE_WIDTH, kind="price") for line in prices]
         parts += self._trail_parts(trail)
         opacity = opacity_of(len(marks))
@@ -95,8 +100,10 @@ class _Plane:
             labels.put(self._mark_words(), around(spot, 9, self._mark_words(), FONT), FONT, "bold")
         for content, spots in self._regions(prices):
             labels.put(content, spots, FONT, "bold")
-        for line, weight in facets:
+        longest = sorted(facets, key=lambda facet: -math.dist(*facet[0]))
+        for line, weight in longest[:MOST_CHANGES]:
             labels.put(str(weight), along(line), SMALL, own=line)
+        labels.left_out += len(longest[MOST_CHANGES:])
         self._name_bids(marks)
 
     def _name_bids(self, marks: Sequence[Mark]) -> None:
