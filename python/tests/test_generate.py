@@ -12,7 +12,7 @@ from product_mix import (
     KINDS, VALUES, Auction, Bid, FormError, Refused, from_dots, generate, generate_owned, solve, to_arrays, to_dots,
     trade_range, validate,
 )
-from product_mix._generate import _Drawn, _most_of_sets, cells_of, weight_of_unions
+from product_mix._generate import _block, _Drawn, _most_of_sets, cells_of, weight_of_unions
 
 from brute_force import utility
 from test_values import STALLS
@@ -49,8 +49,25 @@ def test_kinds_have_what_they_say() -> None:
     assert [bid.weight for bid in unit.bids] == [1] * 10
     near = generate(1, values="clustered", goods=1, bidders=20).bids
     assert max(bid.values[0] or 0 for bid in near) - min(bid.values[0] or 0 for bid in near) <= 200
+    for seed in range(20):
+        # A tenth of 15 is 1.5, so whole values are within 1 of the common one.
+        near = generate(seed, values="clustered", goods=1, bidders=20, top=15).bids
+        assert max(bid.values[0] or 0 for bid in near) - min(bid.values[0] or 0 for bid in near) <= 2
     assert generate(1, capped=1.0).caps.keys() == set(generate(1).bidders) and generate(1, "blocks", capped=1.0, goods=2).caps == {}
     assert generate(1, supply=[1, 2, 3], reserve=7).supply == (1, 2, 3) and generate(1, reserve=7).reserve == (7, 7, 7)
+
+
+@settings(max_examples=40)
+@given(st.integers(0, 10**6), st.lists(st.integers(0, 1000), min_size=2, max_size=2))
+def test_a_block_is_for_one_of_each(seed: int, prices: List[int]) -> None:
+    """Its bidder gains the most of nothing, either good alone, and both together for no more than the sum."""
+    dots = _block(_Drawn(random.Random(seed), 2, "uniform", 1000, 1))
+    assert [weight for _, weight in dots] == [1, 1, 1, -1]
+    first, second = dots[2][0]
+    less = (first or 0) - (dots[3][0][0] or 0)
+    assert first is not None and second is not None and 0 <= less <= min(first, second)
+    one, other = first - prices[0], second - prices[1]
+    assert utility(from_dots("P", dots), None, tuple(prices)) == max(0, one, other, one + other - less)
 
 
 @settings(max_examples=40)

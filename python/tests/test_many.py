@@ -12,6 +12,7 @@ import zipfile
 from concurrent.futures import ThreadPoolExecutor
 from hashlib import sha256
 from pathlib import Path
+from types import ModuleType
 from typing import Any, Callable, Dict, List
 
 import pytest
@@ -167,6 +168,34 @@ def test_a_number_of_workers(here: Path, capsys: pytest.CaptureFixture[str]) -> 
         with pytest.raises(SystemExit):
             main(["many", "texts", "--workers=" + bad])
         assert "is no number of processes" in capsys.readouterr().err
+
+
+@pytest.mark.parametrize("words, module, wanted", [
+    (["--dask", "tcp://127.0.0.1:1"], "dask", "--dask wants the package distributed"),
+    (["--mpi"], "mpi4py.futures", "--mpi wants the package mpi4py")])
+def test_engines_that_are_not_installed(here: Path, words: List[str], module: str, wanted: str,
+                                        monkeypatch: pytest.MonkeyPatch, capsys: pytest.CaptureFixture[str]) -> None:
+    monkeypatch.setitem(sys.modules, module, None)
+    assert main(["many", "texts", *words]) == 8
+    assert wanted in capsys.readouterr().err and (here / "outcomes.jsonl").read_bytes() == b""
+
+
+@pytest.mark.parametrize("error", [OSError("Timed out trying to connect"), ValueError("not a valid address")])
+def test_a_scheduler_that_is_not_there(here: Path, error: Exception, monkeypatch: pytest.MonkeyPatch,
+                                       capsys: pytest.CaptureFixture[str]) -> None:
+    def connect(address: str) -> None:
+        raise error
+
+    dask, distributed = ModuleType("dask"), ModuleType("dask.distributed")
+    vars(dask)["distributed"], vars(distributed)["Client"] = distributed, connect
+    monkeypatch.setitem(sys.modules, "dask", dask)
+    assert main(["many", "texts", "--dask", "nowhere"]) == 8
+    assert capsys.readouterr().err == "there is no scheduler of Dask at nowhere: %s\n" % error
+
+
+def test_workers_of_dask_are_not_counted_here(here: Path, capsys: pytest.CaptureFixture[str]) -> None:
+    assert main(["many", "texts", "--dask", "nowhere", "--workers", "2"]) == 2
+    assert "--workers doesn't go with --dask" in capsys.readouterr().err and not (here / "outcomes.jsonl").exists()
 
 
 def test_ctrl_c(here: Path, monkeypatch: pytest.MonkeyPatch, capsys: pytest.CaptureFixture[str]) -> None:

@@ -139,9 +139,23 @@ def test_solve_many() -> None:
     assert error.bid.bidder == "Dan"
 
 
-def test_solve_many_by_processes_of_its_own(capfd: pytest.CaptureFixture[str]) -> None:
-    results = list(solve_many([STALLS, "x\n", STALLS.text()], two, progress=True))
+def test_solve_many_by_processes_of_its_own() -> None:
+    results = list(solve_many([STALLS, "x\n", STALLS.text()], two))
     assert results[0] == results[2] == solve(STALLS) and isinstance(results[1], Fault) and results[1].line == 1
+
+
+def test_progress_where_there_is_tqdm(capsys: pytest.CaptureFixture[str]) -> None:
+    pytest.importorskip("tqdm")
+    with ThreadPoolExecutor(2) as executor:
+        assert len(list(solve_many([STALLS, STALLS], executor, progress=True))) == 2
+    assert "2/2" in capsys.readouterr().err
+
+
+def test_progress_where_there_is_none(monkeypatch: pytest.MonkeyPatch, capsys: pytest.CaptureFixture[str]) -> None:
+    monkeypatch.setitem(sys.modules, "tqdm", None)
+    with ThreadPoolExecutor(2) as executor:
+        assert len(list(solve_many([STALLS, STALLS], executor, progress=True))) == 2
+    assert capsys.readouterr().err == ""
 
 
 def test_nothing_starts_before_a_result_is_wanted() -> None:

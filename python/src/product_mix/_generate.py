@@ -35,8 +35,8 @@ KINDS: Dict[str, Kind] = {
         "Bids of positive weight on one or several goods, each of which takes the good that leaves most.",
         "The bids of Klemperer's product-mix auction (2010)."),
     "blocks": Kind(
-        "Blocks of four bids on two goods, one of negative weight: so many units of either, fewer values for both together, "
-        "and never more than so many of one; the other bids are positive.",
+        "Blocks of four bids on two goods, one of negative weight: a weight times at most one unit of each good, both together "
+        "worth no more than the sum of the two; the other bids are positive.",
         "The bids of either sign of Baldwin and Klemperer (2019). The block is that of this program's trial auctions."),
     "one-of-each": Kind(
         "Groups of bids, each for at most one unit of each of several goods and some number of units in all.",
@@ -56,7 +56,8 @@ KINDS: Dict[str, Kind] = {
 VALUES: Dict[str, Kind] = {
     "uniform": Kind("Each value is drawn from 0 to the top.", "The usual first choice of simulations."),
     "clustered": Kind(
-        "Each good has a value that all have in common, and each bid's value lies within a tenth of the top of it.",
+        "Each good has a value that all have in common, and each value of a good lies within a tenth of the top of it; by how "
+        "much less both goods of a block are worth together is drawn freely.",
         "Common values with private parts, as Milgrom and Weber (1982) have them, in the simplest form."),
     "small": Kind(
         "Each value is drawn from 0 to 4, so that ties are everywhere.",
@@ -162,7 +163,8 @@ class _Drawn:
     def value(self, good: int) -> int:
         if self._values != "clustered":
             return self.draw.randint(0, self._top)
-        near = self._common[good] + self.draw.randint(-self._top // 10, self._top // 10)
+        tenth = self._top // 10
+        near = self._common[good] + self.draw.randint(-tenth, tenth)
         return min(max(near, 0), self._top)
 
     def weight(self) -> int:

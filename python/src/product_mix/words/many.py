@@ -14,11 +14,13 @@ import argparse
 import functools
 import sys
 from contextlib import contextmanager
-from typing import Any, Iterator
+from typing import Any, Iterator, Optional
 
+from .._errors import ProductMixError
 from .._lines import LineFile
 from .._many import run_many
 from .._pool import ExecutorOrMaker, local_pool
+from .._solver import WORDS
 from .._texts import texts_in
 from ._common import add_solver
 
@@ -39,6 +41,9 @@ def add_to(parser: argparse.ArgumentParser) -> None:
 
 
 def run(arguments: argparse.Namespace) -> int:
+    if arguments.dask is not None and arguments.workers is not None:
+        print("--workers doesn't go with --dask, which has the workers that joined the scheduler", file=sys.stderr)
+        return WORDS
     try:
         with LineFile(arguments.out) as lines, _executor(arguments) as executor:
             tally = run_many(texts_in(arguments.paths, arguments.pattern), lines, executor, progress=sys.stderr.isatty(),
@@ -54,16 +59,34 @@ def run(arguments: argparse.Namespace) -> int:
 def _executor(arguments: argparse.Namespace) -> Iterator[ExecutorOrMaker]:
     """The workers that the command line asks for."""
     if arguments.dask is not None:
-        from dask import distributed
-        connect: Any = distributed.Client
-        with connect(arguments.dask) as client:
+        with _dask_client(arguments.dask) as client:
             yield client.get_executor()
     elif arguments.mpi:
-        from mpi4py.futures import MPIPoolExecutor
-        with MPIPoolExecutor(arguments.workers) as executor:
+        with _mpi_pool(arguments.workers) as executor:
             yield executor
     else:
         yield functools.partial(local_pool, arguments.workers)
+
+
+def _dask_client(address: str) -> Any:
+    try:
+        from dask import distributed
+    except ImportError as error:
+        raise ProductMixError("--dask wants the package distributed: %s" % error) from error
+    connect: Any = distributed.Client
+    try:
+        return connect(address)
+    # An address that is none is a ValueError.
+    except (OSError, ValueError) as error:
+        raise ProductMixError("there is no scheduler of Dask at %s: %s" % (address, error)) from error
+
+
+def _mpi_pool(workers: Optional[int]) -> Any:
+    try:
+        from mpi4py.futures import MPIPoolExecutor
+    except ImportError as error:
+        raise ProductMixError("--mpi wants the package mpi4py and a library of MPI: %s" % error) from error
+    return MPIPoolExecutor(workers)
 
 
 def _count(text: str) -> int:
