@@ -9,7 +9,7 @@ import sys
 import tarfile
 import time
 import zipfile
-from concurrent.futures import ThreadPoolExecutor
+from concurrent.futures import CancelledError, ThreadPoolExecutor
 from hashlib import sha256
 from pathlib import Path
 from types import ModuleType
@@ -191,6 +191,19 @@ def test_a_scheduler_that_is_not_there(here: Path, error: Exception, monkeypatch
     monkeypatch.setitem(sys.modules, "dask", dask)
     assert main(["many", "texts", "--dask", "nowhere"]) == 8
     assert capsys.readouterr().err == "there is no scheduler of Dask at nowhere: %s\n" % error
+
+
+def test_a_scheduler_that_is_gone_has_a_name(here: Path, monkeypatch: pytest.MonkeyPatch,
+                                             capsys: pytest.CaptureFixture[str]) -> None:
+    """Its futures are cancelled, with an error that says nothing but its name."""
+    def cancelled(*_: object, **__: object) -> None:
+        raise CancelledError
+
+    (here / "one.csv").write_text(STALLS.text())
+    monkeypatch.setattr("product_mix._many.line_of", cancelled)
+    with ThreadPoolExecutor(1) as executor, LineFile("out") as lines:
+        assert run_many(texts_in(["one.csv"], "*.csv"), lines, executor).failed == 1
+    assert capsys.readouterr().err == "one.csv: CancelledError\n"
 
 
 def test_workers_of_dask_are_not_counted_here(here: Path, capsys: pytest.CaptureFixture[str]) -> None:

@@ -107,6 +107,13 @@ def test_an_executor_that_is_handed_in_and_breaks() -> None:
             next(results)
 
 
+def test_an_executor_that_takes_no_more() -> None:
+    executor = ThreadPoolExecutor(1)
+    executor.shutdown()
+    with pytest.raises(WorkerLost, match="takes no more tasks: cannot schedule new futures after shutdown"):
+        list(run_all(double, [1], Pool(executor)))
+
+
 def test_workers_that_never_work() -> None:
     class Broken(Executor):
         def submit(self, *arguments: Any, **named: Any) -> "Future[Any]":

@@ -46,7 +46,8 @@ def run_many(found: Iterable[Found], lines: LineFile, executor: Optional[Executo
     with closing(run_all(work, texts, Pool(executor), in_order=False)) as results:
         for text, result in with_progress(results, None, progress):
             if isinstance(result, Exception):
-                tally.fail(text.name, result)
+                # Of a scheduler that is gone Dask says no word but the error's name.
+                tally.fail(text.name, str(result) or type(result).__name__)
             else:
                 lines.add(result)
                 tally.statuses[result["status"]] += 1

@@ -8,7 +8,7 @@ from concurrent.futures import FIRST_COMPLETED, BrokenExecutor, Executor, Future
 from itertools import chain, islice
 from typing import Any, Callable, Dict, Generator, Generic, Iterable, List, Optional, Set, Tuple, TypeVar, Union
 
-from ._errors import WorkerLost
+from ._errors import WorkerLost, shortened
 
 #: An executor, or what makes one. An executor that is handed in is used as it is, and never shut down.
 ExecutorOrMaker = Union[Executor, Callable[[], Executor]]
@@ -57,7 +57,14 @@ class Pool:
         if self._executor is None:
             assert self._make is not None
             self._executor = self._make()
-        return self._executor.submit(work, task)
+        try:
+            return self._executor.submit(work, task)
+        except BrokenExecutor:
+            raise
+        except Exception as error:
+            # Where a scheduler is gone or an executor shut down, each has an error of its own.
+            why = shortened(str(error).split("\n")[0]) or type(error).__name__
+            raise WorkerLost("the executor takes no more tasks: %s" % why) from error
 
     def leave_broken(self, why: BaseException) -> None:
         """The next task goes to a new executor; where none can be made, or one after the other breaks, this is the end."""
