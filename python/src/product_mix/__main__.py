@@ -14,6 +14,7 @@ from ._solver import FAULT, LIMIT, MEMORY, READING, WRITING
 WORDS = {
     "sheet": "a table of bids, as spreadsheets have it, to the text of an auction, and back",
     "solve": "who gets what, at which prices, and who pays what",
+    "report": "one page of HTML on an auction and its outcome, for a board, for each bidder, and for paper",
     "explain": "what is wrong with a text or a list, and how the bids of each bidder stand",
     "check": "whether an outcome is true of its auction",
     "prices": "the least clearing price of each good",

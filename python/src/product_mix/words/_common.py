@@ -3,7 +3,7 @@
 import argparse
 import sys
 from dataclasses import replace
-from typing import Any, Sequence, Tuple, Union
+from typing import Any, List, Sequence, Tuple, Union
 
 from .._answers import Verdict, read_verdict
 from .._auction import Auction
@@ -59,11 +59,20 @@ class Given:
     """The auction that the command line names: its text, with what stands after it, and how its names are shown."""
 
     def __init__(self, arguments: argparse.Namespace) -> None:
-        self.part = read_part(arguments.auction)
-        self.shown = Shown() if arguments.auction == STANDARD_INPUT else shown_beside(arguments.auction)
-        self.solver = Solver(arguments.program, arguments.library)
         outcome = getattr(arguments, "outcome", None)
-        self.parts = [self.part] if outcome is None else [self.part, read_part(outcome)]
+        shown = Shown() if arguments.auction == STANDARD_INPUT else shown_beside(arguments.auction)
+        parts = [read_part(path) for path in (arguments.auction, outcome) if path is not None]
+        self._hold(parts, shown, Solver(arguments.program, arguments.library))
+
+    @classmethod
+    def of_parts(cls, parts: List[Part], shown: Shown, solver: Solver) -> "Given":
+        """What was read already: the auction, and the outcome if one is named."""
+        given = cls.__new__(cls)
+        given._hold(parts, shown, solver)
+        return given
+
+    def _hold(self, parts: List[Part], shown: Shown, solver: Solver) -> None:
+        self.part, self.parts, self.shown, self.solver = parts[0], parts, shown, solver
 
     def auction(self) -> Auction:
         """The auction, which the program is asked about first, as its messages say more."""

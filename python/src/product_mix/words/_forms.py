@@ -63,7 +63,7 @@ def drawn(table: Table) -> str:
     rows = [[_shown(cell) for cell in row] for row in [*table.rows, *([table.total] if table.total else [])]]
     columns = [[title, *[row[at] for row in rows]] for at, title in enumerate(table.columns)]
     widths = [max(map(width_of, column)) for column in columns]
-    rights = [all(_is_amount(cell) for cell in column[1:]) for column in columns]
+    rights = [all(is_amount(cell) for cell in column[1:]) for column in columns]
     lines = [_line(row, widths, rights) for row in [table.columns, *rows]]
     rule = "-" * max(map(width_of, lines))
     lines.insert(1, rule)
@@ -76,7 +76,8 @@ def _shown(cell: Cell) -> str:
     return NONE if cell is None else str(cell)
 
 
-def _is_amount(cell: str) -> bool:
+def is_amount(cell: str) -> bool:
+    """Whether a column that has this cell may stand to the right."""
     return cell in ("", NONE) or cell.lstrip("-").replace(".", "", 1).isdigit()
 
 

@@ -31,6 +31,14 @@ _SEPARATORS = {**{name: name for name in SEPARATORS}, "tab": "\t"}
 def add_to(parser: argparse.ArgumentParser) -> None:
     parser.add_argument("files", metavar="FILE", nargs="+",
                         help="a table as CSV (with commas, semicolons or tabs) or .xlsx; - for standard input")
+    add_reading(parser)
+    parser.add_argument("--out", metavar="FILE", help="where to write to, and the names beside it; by default the text alone "
+                        "is printed")
+    add_solver(parser)
+
+
+def add_reading(parser: argparse.ArgumentParser) -> None:
+    """The options that say how a sheet is to be read."""
     parser.add_argument("--step", default="1", help="of what all amounts are multiples, as 0.01; by default 1")
     parser.add_argument("--decimal", choices=[".", ","], help="the decimal mark, where the sheet leaves it open")
     parser.add_argument("--separator", choices=sorted(_SEPARATORS), help="what stands between fields; by default it is told "
@@ -38,26 +46,29 @@ def add_to(parser: argparse.ArgumentParser) -> None:
     parser.add_argument("--goods", metavar="A,B", help="the titles of the columns that are goods")
     parser.add_argument("--column", metavar="WHAT=TITLE", action="append", default=[],
                         help="the title of a column; WHAT is one of %s" % ", ".join(TITLES))
-    parser.add_argument("--out", metavar="FILE", help="where to write to, and the names beside it; by default the text alone "
-                        "is printed")
-    add_solver(parser)
 
 
 def run(arguments: argparse.Namespace) -> int:
     parts = [read_part(name) for name in arguments.files]
-    if len(parts) == 1 and _is_auction(parts[0]):
+    if len(parts) == 1 and is_auction(parts[0]):
         return _back(arguments)
+    _write(understood_of(parts, arguments), arguments.out)
+    return 0
+
+
+def understood_of(parts: List[Part], arguments: argparse.Namespace) -> Understood:
+    """The auction that the tables say, as far as the options say how they are read; how it was understood is told."""
     step = step_of(arguments.step)
     columns = Columns(_named(arguments.column), arguments.goods.split(",") if arguments.goods else None)
     separator = arguments.separator and _SEPARATORS[arguments.separator]
     sheets = [sheet for part in parts for sheet in read_sheets(part.name, part.data, separator)]
     understood = read_auction(sheets, Manner(step, arguments.decimal, columns), Solver(arguments.program, arguments.library))
     _tell(understood)
-    _write(understood, arguments.out)
-    return 0
+    return understood
 
 
-def _is_auction(part: Part) -> bool:
+def is_auction(part: Part) -> bool:
+    """Whether it is the text of an auction, and no table."""
     return any(row.fields[0] == "mix" for row in list(rows_of(part.data))[:1])
 
 

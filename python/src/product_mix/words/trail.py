@@ -4,7 +4,9 @@ import argparse
 from typing import List, Sequence
 
 from .._answers import Trail, read_trail, unless_refused
+from .._auction import Auction
 from .._outcome import Refused
+from .._shown import Shown
 from ._common import Given, Table, Told, add_auction, answer_text, refusal, tell
 from ._forms import TEXT, Cell
 
@@ -20,15 +22,14 @@ def run(arguments: argparse.Namespace) -> int:
     trail = given.answer(["trail"], unless_refused(read_trail))
     if isinstance(trail, Refused):
         return tell(refusal(given, trail), arguments.form)
-    table = steps_table(given, trail)
+    table = steps_table(given.auction(), trail, given.shown)
     steps = [{"goods": [good for good in given.goods() if good in step.goods], "length": step.length, "slope": step.slope}
              for step in trail.steps]
     return tell(Told([table], [], table, {"steps": steps, "prices": dict(trail.prices)}), arguments.form)
 
 
-def steps_table(given: Given, trail: Trail) -> Table:
+def steps_table(auction: Auction, trail: Trail, shown: Shown) -> Table:
     """A row for each step, with the prices after it; the first row has the reserves."""
-    auction, shown = given.auction(), given.shown
     goods = [shown.good(good) for good in auction.goods]
     start, *ends = trail.points(auction)
     rows: List[Sequence[Cell]] = [["reserves", None, None, *map(shown.amount, start.values())]]

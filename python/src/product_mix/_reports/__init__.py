@@ -1,0 +1,1 @@
+"""One page of HTML on an auction and its outcome."""
