@@ -7,13 +7,13 @@ from .._auction import Auction
 from .._shown import Shown
 from .html import Html, element, joined
 
-WIDTH, HEIGHT = 640, 320
-LEFT, TOP, BOTTOM = 76, 14, 44
+WIDTH, HEIGHT = 500, 290
+LEFT, TOP, BOTTOM = 70, 14, 44
 # Between the plane and the names of the lines, and how much room these take.
-GAP, NAMES = 12, 150
+GAP, NAMES = 10, 140
 # How far apart the names of two lines stand at least.
 APART = 17
-MOST_LETTERS = 18
+MOST_LETTERS = 14
 TICKS = 4
 # Of a longer trail only so many points are drawn, evenly, and the last.
 MOST_POINTS = 1500
@@ -51,7 +51,7 @@ def chart(auction: Auction, trail: Trail, shown: Shown) -> Html:
     drawn = element("svg", joined(contents), class_="chart", viewBox="0 0 %d %d" % (WIDTH, HEIGHT), role="img",
                     aria_labelledby="chart-title chart-words")
     caption = "Each line is a good, from its reserve to its price."
-    return element("figure", drawn, element("figcaption", caption))
+    return element("figure", drawn, element("figcaption", caption), class_="lines")
 
 
 def _thinned(auction: Auction, trail: Trail) -> Tuple[List[int], List[Dict[str, int]]]:

@@ -1,10 +1,10 @@
 """What the page tells, as the program was asked for it."""
 
-from typing import Dict, Mapping, NamedTuple, Optional, Sequence, Union
+from typing import Dict, Mapping, NamedTuple, Optional, Sequence, Tuple, Union
 
 from .._answers import Trail, Verdict, by_bidder, read_trail
 from .._auction import Auction
-from .._explaining import Utilities
+from .._explaining import Utilities, listed
 from .._lines import digest_of
 from .._outcome import Cleared, Refused
 from .._shown import Shown
@@ -15,6 +15,8 @@ from ..words.explain import utilities_of
 
 # The program looks for the steps of an auction with caps unit by unit: beyond this rise of all prices it isn't asked.
 MOST_RISE_WITH_CAPS = 100_000
+# A title names so many goods.
+MOST_NAMED = 3
 
 
 class Text(NamedTuple):
@@ -29,7 +31,8 @@ class Text(NamedTuple):
 class Facts(NamedTuple):
     """An auction, its outcome, and what else is told of it where it cleared and the outcome is true.
 
-    ``said`` is what the checker prints of the texts as they stand on the page.
+    ``said`` is what the checker prints of the texts as they stand on the page; ``drawn`` are the goods that are chosen for
+    the picture.
     """
 
     title: str
@@ -44,6 +47,7 @@ class Facts(NamedTuple):
     gains: Mapping[str, int]
     trail: Optional[Trail]
     utilities: Utilities
+    drawn: Tuple[str, ...] = ()
 
     @property
     def cleared(self) -> Optional[Cleared]:
@@ -56,22 +60,30 @@ class Facts(NamedTuple):
         return {name: number for number, name in enumerate(self.auction.bidders, 1)}
 
 
-def gathered(given: Given, title: str) -> Facts:
+def gathered(given: Given, title: Optional[str], drawn: Sequence[str]) -> Facts:
     """Asks the program for all that the page tells."""
     outcome, verdict = given.outcome()
     auction = given.auction()
+    chosen = tuple([given.good(name) for name in drawn])
     alone = given.alone().data
     texts = [text_of_page("auction.csv", alone),
              text_of_page("outcome.csv", outcome.text(auction, Source(alone).format).encode("ascii"))]
     is_given = len(given.parts) > 1 or given.alone() != given.part
     utilities = utilities_of(given)
     said = given.solver.ask(["check"], "".join(text.content for text in texts).encode("ascii")).printed.decode("ascii").strip()
-    facts = Facts(title, given.shown, auction, outcome, is_given, verdict, said, texts, {}, {}, None, utilities)
+    facts = Facts(title or _title(auction, given.shown), given.shown, auction, outcome, is_given, verdict, said, texts, {}, {}, None,
+                  utilities, chosen)
     if facts.cleared is None:
         return facts
     trail = given.alone_answer(["trail"], read_trail) if _is_asked_for_steps(auction, facts.cleared) else None
     return facts._replace(most=given.alone_answer(["validate"], by_bidder("valid")), trail=trail,
                           gains=utilities(facts.cleared.prices))
+
+
+def _title(auction: Auction, shown: Shown) -> str:
+    """What the auction is of."""
+    names = [shown.good(good) for good in auction.goods]
+    return "Auction of %s" % (listed(names) if len(names) <= MOST_NAMED else "%d goods" % len(names))
 
 
 def text_of_page(name: str, data: bytes) -> Text:

@@ -6,6 +6,7 @@ from .. import __version__
 from .bidders import bidders_section
 from .board import board
 from .certificate import certificate_section
+from .drawn import picture_section
 from .facts import Facts
 from .html import Html, element, joined, void
 from .style import STYLE
@@ -48,6 +49,10 @@ def _sections(facts: Facts) -> List[Section]:
         if outcome.shares:
             found.append(("The bidders", "of-bidders", bidders_section(facts, outcome)))
         found.append(("The prices on their way", "way", way_section(facts)))
+    drawn = picture_section(facts)
+    if drawn is not None:
+        found.append(("The picture", "picture", drawn))
+    if outcome is not None:
         found.append(("Why it is right", "certificate", certificate_section(facts, outcome)))
     found.append(("The texts", "texts", texts_section(facts)))
     return found

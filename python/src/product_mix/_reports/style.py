@@ -49,13 +49,16 @@ th:first-child, td:first-child { padding-left: 0.35rem; }
 thead th { border-bottom: 2px solid var(--rule); vertical-align: bottom; font-weight: 600; }
 tbody th, tfoot th { font-weight: 500; }
 tfoot th, tfoot td { border-top: 2px solid var(--rule); border-bottom: 0; font-weight: 600; }
-.number { text-align: right; white-space: nowrap; }
-td.words { min-width: 15rem; }
+.number { text-align: right; }
+td.number { white-space: nowrap; }
+td.words { min-width: 18rem; }
 tr.met { background: var(--shade); }
 pre { background: var(--shade); padding: 0.6rem 0.75rem; margin: 0.4rem 0; overflow-x: auto; border-radius: 0.3rem; line-height: 1.35; }
 pre, code { font-family: ui-monospace, monospace; font-size: 0.88rem; }
 .text { max-height: 24rem; overflow: auto; }
-figure { margin: 1rem 0; max-width: 44rem; }
+figure { margin: 1rem 0; max-width: 36rem; }
+.picture { max-width: 40rem; }
+.picture svg { min-width: 30rem; }
 figure svg { display: block; width: 100%; height: auto; }
 figcaption { color: var(--faint); font-size: 0.92rem; }
 .chart text { fill: var(--ink); font: 13px system-ui, sans-serif; }
@@ -66,18 +69,25 @@ footer { margin-top: 2.5rem; border-top: 1px solid var(--rule); color: var(--fai
 @media print {
   @page { margin: 16mm 14mm; }
   body { padding: 0; max-width: none; font-size: 10pt; line-height: 1.35; }
+  .lead { font-size: 11pt; }
+  dl { grid-template-columns: repeat(auto-fit, minmax(6rem, 1fr)); gap: 0; margin: 0.5rem 0; }
+  dl > div { padding: 0.25rem 0.5rem 0.25rem 0; }
+  dd { font-size: 12pt; }
+  .wide { margin: 0.5rem 0 0.75rem; }
+  ol p { margin: 0.2rem 0; }
+  figure { max-width: 13cm; }
   h1 { font-size: 17pt; margin-top: 0; }
   h2 { font-size: 13pt; margin-top: 1.2rem; }
   h3 { font-size: 11pt; margin-top: 1rem; }
   nav { display: none; }
   a { color: inherit; text-decoration: none; }
   p, ul, ol { max-width: none; }
+  pre { white-space: pre-wrap; padding: 0.15rem 0.5rem; margin: 0.2rem 0; font-size: 8pt; line-height: 1.25; }
   .wide, pre, .text { overflow: visible; max-height: none; }
-  pre { white-space: pre-wrap; }
   thead { display: table-header-group; }
   tr, figure, dl, li { break-inside: avoid; }
   h2, h3, caption { break-after: avoid; }
-  section.after-board { break-before: page; }
+  .after-board { break-before: page; }
   th, td { padding: 0.15rem 0.5rem; }
   td.words { min-width: 0; }
 }

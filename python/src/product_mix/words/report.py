@@ -8,7 +8,6 @@ The auction is its text, or a sheet as `sheet` takes it, of one file or of sever
 """
 
 import argparse
-import os
 import sys
 
 from .._errors import FormError
@@ -27,14 +26,15 @@ def add_to(parser: argparse.ArgumentParser) -> None:
     parser.add_argument("--outcome", metavar="FILE", help="the outcome, as --text of solve prints it, unless it stands after the "
                         "auction; by default the solver finds it")
     parser.add_argument("--out", metavar="PAGE.html", help="where to write to; by default the page is printed")
-    parser.add_argument("--title", help="the title; by default the name of the file")
+    parser.add_argument("--title", help="the title; by default it names the goods")
+    parser.add_argument("--picture", metavar="A,B", help="the two goods that are drawn, or the one, where there are more than two")
     add_reading(parser)
     add_solver(parser)
 
 
 def run(arguments: argparse.Namespace) -> int:
     given = _given(arguments)
-    facts = gathered(given, arguments.title or "The auction " + os.path.basename(given.part.name))
+    facts = gathered(given, arguments.title, arguments.picture.split(",") if arguments.picture else [])
     _write(page(facts), arguments.out)
     return 0 if facts.cleared is not None else UNMET
 
