@@ -83,8 +83,7 @@ def _counts(found: Sequence[Standing]) -> str:
 def _table(facts: Facts, outcome: Cleared, own: Auction, name: str, found: Sequence[Tuple[int, Standing]]) -> Table:
     sentences = Sentences(own, facts.shown)
     rows: List[Sequence[Cell]] = [
-        [number, standing.bid.weight,
-         *[None if value is None else facts.shown.amount(value) for value in standing.bid.values],
-         sentences.standing(standing, outcome.prices)] for number, standing in found]
-    columns = ["bid", "quantity", *["value of " + facts.shown.good(good) for good in own.goods], "how it stands"]
+        [number, standing.bid.weight, sentences.standing(standing, outcome.prices),
+         *[None if value is None else facts.shown.amount(value) for value in standing.bid.values]] for number, standing in found]
+    columns = ["bid", "quantity", "how it stands", *["value of " + facts.shown.good(good) for good in own.goods]]
     return Table("Bids of %s%s" % (facts.shown.bidder(name), in_currency(facts)), columns, rows)

@@ -43,5 +43,5 @@ def escaped(content: str) -> str:
 
 def _opened(tag: str, attributes: Dict[str, Attribute]) -> str:
     return tag + "".join([
-        ' %s="%s"' % (name.rstrip("_").replace("_", "-"), escape(str(value)))
+        ' %s="%s"' % (name.rstrip("_").replace("_", "-"), escaped(str(value)).replace('"', "&quot;"))
         for name, value in attributes.items() if value is not None])

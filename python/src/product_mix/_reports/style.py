@@ -51,7 +51,7 @@ tbody th, tfoot th { font-weight: 500; }
 tfoot th, tfoot td { border-top: 2px solid var(--rule); border-bottom: 0; font-weight: 600; }
 .number { text-align: right; }
 td.number { white-space: nowrap; }
-td.words { min-width: 18rem; }
+td.words { min-width: 15rem; max-width: 32rem; }
 tr.met { background: var(--shade); }
 pre { background: var(--shade); padding: 0.6rem 0.75rem; margin: 0.4rem 0; overflow-x: auto; border-radius: 0.3rem; line-height: 1.35; }
 pre, code { font-family: ui-monospace, monospace; font-size: 0.88rem; }
@@ -89,6 +89,6 @@ footer { margin-top: 2.5rem; border-top: 1px solid var(--rule); color: var(--fai
   h2, h3, caption { break-after: avoid; }
   .after-board { break-before: page; }
   th, td { padding: 0.15rem 0.5rem; }
-  td.words { min-width: 0; }
+  td.words { min-width: 0; max-width: none; }
 }
 """
