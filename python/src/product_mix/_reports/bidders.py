@@ -66,9 +66,9 @@ def _share(facts: Facts, outcome: Cleared, name: str) -> str:
             % shown.money(facts.gains[name])]
     if name in auction.caps:
         told.append("It takes at most %s of all goods together." % units(auction.caps[name]))
-    if len(auction.bidders) > 1:
+    if len(facts.numbers) > 1:
         told.append("Where several bundles are as good, it is served as number %d of %d."
-                    % (auction.tie_order.index(name) + 1, len(auction.bidders)))
+                    % (facts.ranks[name], len(facts.ranks)))
     return " ".join(told)
 
 

@@ -32,7 +32,7 @@ class Facts(NamedTuple):
     """An auction, its outcome, and what else is told of it where it cleared and the outcome is true.
 
     ``said`` is what the checker prints of the texts as they stand on the page; ``drawn`` are the goods that are chosen for
-    the picture.
+    the picture; ``numbers`` the bidders' numbers, from 1, by which sections are found, and ``ranks`` those in tie order.
     """
 
     title: str
@@ -47,17 +47,14 @@ class Facts(NamedTuple):
     gains: Mapping[str, int]
     trail: Optional[Trail]
     utilities: Utilities
-    drawn: Tuple[str, ...] = ()
+    drawn: Tuple[str, ...]
+    numbers: Mapping[str, int]
+    ranks: Mapping[str, int]
 
     @property
     def cleared(self) -> Optional[Cleared]:
         """The outcome, where it cleared and is true."""
         return self.outcome if isinstance(self.outcome, Cleared) and self.verdict else None
-
-    @property
-    def numbers(self) -> Dict[str, int]:
-        """The number of each bidder, from 1, by which its section is found."""
-        return {name: number for number, name in enumerate(self.auction.bidders, 1)}
 
 
 def gathered(given: Given, title: Optional[str], drawn: Sequence[str]) -> Facts:
@@ -72,12 +69,16 @@ def gathered(given: Given, title: Optional[str], drawn: Sequence[str]) -> Facts:
     utilities = utilities_of(given)
     said = given.solver.ask(["check"], "".join(text.content for text in texts).encode("ascii")).printed.decode("ascii").strip()
     facts = Facts(title or _title(auction, given.shown), given.shown, auction, outcome, is_given, verdict, said, texts, {}, {}, None,
-                  utilities, chosen)
+                  utilities, chosen, _numbered(auction.bidders), _numbered(auction.tie_order))
     if facts.cleared is None:
         return facts
     trail = given.alone_answer(["trail"], read_trail) if _is_asked_for_steps(auction, facts.cleared) else None
     return facts._replace(most=given.alone_answer(["validate"], by_bidder("valid")), trail=trail,
                           gains=utilities(facts.cleared.prices))
+
+
+def _numbered(names: Sequence[str]) -> Dict[str, int]:
+    return {name: number for number, name in enumerate(names, 1)}
 
 
 def _title(auction: Auction, shown: Shown) -> str:

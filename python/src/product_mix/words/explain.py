@@ -56,11 +56,13 @@ def _told(given: Given, sentences: Sentences, outcome: Cleared, names: Tuple[str
 
 def utilities_of(given: Given) -> Utilities:
     """What the program says that bidders gain at prices; it is asked once for each."""
+    # A long text is looked through for its end, which is done once.
+    alone, goods = given.alone(), given.goods()
 
     @functools.lru_cache(maxsize=None)
     def ask(prices: Tuple[int, ...]) -> Mapping[str, int]:
-        part = rows_part("prices", [amounts_row("price", prices, given.goods())])
-        gains: Mapping[str, int] = given.solver.answer(["utility"], [given.alone(), part], by_bidder("utility"), given.goods)
+        part = rows_part("prices", [amounts_row("price", prices, goods)])
+        gains: Mapping[str, int] = given.solver.answer(["utility"], [alone, part], by_bidder("utility"), lambda: goods)
         return gains
 
     def utilities(prices: Amounts) -> Mapping[str, int]:
