@@ -164,14 +164,13 @@ def test_the_other_sections(page: Pages) -> None:
         "How to repeat it", "On this page", "The bidders", "The prices on their way", "The picture", "Why it is right",
         "The texts"]
     assert found.table("Bids of Cleo")[1:] == [
-        ["1", "1", "at the edge, as inside or nothing are as good for it, and filled in part at most; it wholly would be if inside "
-         "cost less than 16 (it costs 16)", "16", "–"],
+        ["1", "1", "not filled; it would be if inside cost less than 16 (it costs 16)", "16", "–"],
         ["2", "1", "filled; it takes outside, which leaves 2 a unit", "–", "10"],
         ["3", "1", "filled; it takes outside, which leaves 16 a unit", "30", "24"],
         ["4", "-1", "it counts; it takes back outside, which leaves 2 a unit", "16", "10"]]
     # Bo has 24 + 16 of value and pays 24; Cleo has an outside stall, worth 24, for 8.
     assert "Gets 1 of inside and 1 of outside and pays 24. By its bids that is worth 16 more than it pays" in found.words
-    assert "Of 4 bids 3 filled and 1 at the edge or in part." in found.words
+    assert "Of 4 bids 3 filled and 1 not filled." in found.words
     assert found.table("2 steps of the prices") == [
         ["what rises", "by", "units too few", "price of inside", "price of outside"],
         ["reserves", "–", "–", "10", "6"], ["inside", "4", "2", "14", "6"], ["inside and outside", "2", "1", "16", "8"]]
@@ -303,7 +302,7 @@ def test_so_many_that_it_is_summarised(page: Pages, monkeypatch: pytest.MonkeyPa
         monkeypatch.setattr(module, name, most)
     found = page(STALLS)
     assert "The 6 bids are too many for a page. So a bidder's table has at most 2 of them" in found.words
-    # At the edge is the first one; of the filled ones the second leaves least.
+    # The first one isn't filled, as Cleo has none of inside; of the filled ones the second leaves least.
     assert [row[0] for row in found.table("Bids of Cleo")[1:]] == ["1", "2"]
     # Six pairs: inside 2 and 0, outside 4 and 0 (Ann and Cleo), inside 6 and 4, outside 6 and 0, inside 3 and 1.
     assert "There are 6 pairs, of 5 kinds" in found.words and "of the 3 that most bidders have" in found.words
