@@ -7,6 +7,8 @@ from .html import Html, element, joined
 
 # What a cell without anything in it shows.
 DASH = "–"
+# What is longer is a sentence, which wants some width.
+LONGEST_NAME = 36
 
 
 def table_of(identity: str, table: Table, marked: Sequence[int] = ()) -> Html:
@@ -30,7 +32,7 @@ def _class_of(cells: Sequence[Cell]) -> Optional[str]:
     shown = [NONE if cell is None else str(cell) for cell in cells]
     if cells and all(map(is_amount, shown)):
         return "number"
-    return "words" if any(len(cell) > 60 and not isinstance(cell, Html) for cell in shown) else None
+    return "words" if any(len(cell) > LONGEST_NAME and not isinstance(cell, Html) for cell in shown) else None
 
 
 def _row(cells: Sequence[Cell], classes: Sequence[Optional[str]], mark: Optional[str] = None) -> Html:
