@@ -9,8 +9,6 @@ mod reasons;
 mod refusal;
 mod reply;
 mod rows;
-#[cfg(test)]
-mod tests;
 mod words;
 
 pub use device::run;

@@ -1,6 +1,6 @@
 // Stated tie orders, and auctions that are written in format 2, as worked out by hand.
-use crate::tests::outcomes::{LATER_PAIRS, OUTCOME, UP_TO_PAIRS};
-use crate::tests::{AUCTION, gives, text_of};
+use crate::calls::outcomes::{LATER_PAIRS, OUTCOME, UP_TO_PAIRS};
+use crate::calls::{AUCTION, gives, text_of};
 use std::test::Fail;
 
 // The auction in format 2, up to the outcome's first pair.

@@ -1,5 +1,5 @@
 // Auctions with caps, as worked out by hand.
-use crate::tests::{AUCTION, call, gives, text_of};
+use crate::calls::{AUCTION, call, gives, text_of};
 use std::test::Fail;
 
 // Three units for sale, and one bidder for one each at 9, 7 and 5.

@@ -1,5 +1,5 @@
 // Whole calls of the command that compares bidders' lists with the first one.
-use crate::tests::{AUCTION, ONE_GOOD, TWO_GOODS, gives, text_of};
+use crate::calls::{AUCTION, ONE_GOOD, TWO_GOODS, gives, text_of};
 use std::test::Fail;
 
 // The bids of X, and some of those of Y: the same the other way round, and one more.

@@ -1,5 +1,5 @@
 // Ranges on devices in memory, as worked out by hand.
-use crate::tests::{gives, text_of};
+use crate::calls::{gives, text_of};
 use std::test::Fail;
 
 // No unit for sale; one bidder for a unit at up to 3, and one at up to 8.

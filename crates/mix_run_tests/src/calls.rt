@@ -10,8 +10,8 @@ mod sizes;
 mod tables;
 mod upgrade;
 
-use crate::device::run;
 use mix_io::{MemorySink, MemorySource};
+use mix_run::run;
 use std::alloc::Global;
 use std::test::Fail;
 

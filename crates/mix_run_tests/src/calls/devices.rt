@@ -1,8 +1,8 @@
 // Devices of which one call fails, a source without end, and texts that are cut short.
-use crate::device::run;
-use crate::tests::outcomes::OUTCOME;
-use crate::tests::{AUCTION, gives, words_of};
+use crate::calls::outcomes::OUTCOME;
+use crate::calls::{AUCTION, gives, words_of};
 use mix_io::{Failed, MemorySink, MemorySource, Source};
+use mix_run::run;
 use std::alloc::Global;
 use std::test::Fail;
 

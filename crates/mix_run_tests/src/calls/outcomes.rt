@@ -1,5 +1,5 @@
 // Outcomes and trails on devices in memory, as worked out by hand, and outcomes handed to the checker.
-use crate::tests::{AUCTION, MARK, MINGLED, ONE_GOOD, SPREAD, TWO_GOODS, call, gives, text_of};
+use crate::calls::{AUCTION, MARK, MINGLED, ONE_GOOD, SPREAD, TWO_GOODS, call, gives, text_of};
 use mix_trial::{make, print_auction};
 use std::test::Fail;
 

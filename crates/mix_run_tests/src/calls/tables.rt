@@ -11,9 +11,9 @@ mod upgrade;
 mod utility;
 mod validate;
 
-use crate::device::run;
-use crate::tests::words_of;
+use crate::calls::words_of;
 use mix_io::{MemorySink, MemorySource};
+use mix_run::run;
 use std::alloc::Global;
 use std::test::Fail;
 

@@ -1,5 +1,5 @@
 // Every command on auctions at the greatest sizes: none of them gives up there, where memory is ample.
-use crate::tests::{call, call_at_once, text_of};
+use crate::calls::{call, call_at_once, text_of};
 use std::alloc::Global;
 use std::test::Fail;
 

@@ -1,5 +1,5 @@
 // What sessions print on devices in memory, and with which status; what they come to is tested where sessions are.
-use crate::tests::{gives, text_of};
+use crate::calls::{gives, text_of};
 use std::test::Fail;
 
 // One unit for sale; one bidder for it at up to 5, and one at up to 3: rows 1 to 7.

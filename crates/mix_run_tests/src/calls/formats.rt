@@ -1,5 +1,5 @@
 // The two formats: which of them a text names, and the limits of each.
-use crate::tests::{call, gives, text_of};
+use crate::calls::{call, gives, text_of};
 use std::alloc::Global;
 use std::test::Fail;
 
