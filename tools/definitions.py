@@ -1,4 +1,4 @@
-"""The definitions and lemmas of specs/ and proofs/, and what each of them cites. For tools/reading, tools/cited and
+"""The definitions and lemmas of specs/ and proofs/, and what each of them cites. For tools/reading and
 checks/unused.
 
 It is a reading by words and imports, and no compiler's: a name that is bound in a definition and is that of another
