@@ -65,9 +65,7 @@ def run_program(program: str, words: Sequence[str], text: bytes) -> Reply:
     # From a file the program takes its text when it will, so neither side ever waits for the other.
     with _file_of(text) as file:
         try:
-            # No file of this process is open to others unless somebody said so, so there are none to be closed.
-            process = subprocess.Popen([program, *words], stdin=file, stdout=subprocess.PIPE, stderr=subprocess.PIPE,
-                                       close_fds=False)
+            process = subprocess.Popen([program, *words], stdin=file, stdout=subprocess.PIPE, stderr=subprocess.PIPE)
         except OSError as error:
             raise ProgramNotFound("%s can't be run: %s" % (program, error.strerror)) from error
         with process:
