@@ -64,7 +64,7 @@ keep_local-at n d us some scales k l =
     subst P (sym (get_or-map (λ (f : ℕ → Vector → ℤ). f d) us k (λ e x. pos 0) (λ x. pos 0) h)) (one.total, one.keeps d some)
 
 -- the prices of a list, each d times
-with_null-multiplied : (d : ℕ) (xs : List ℤ) → with_null (multiplied d xs) ≡ times d (with_null xs)
+pub with_null-multiplied : (d : ℕ) (xs : List ℤ) → with_null (multiplied d xs) ≡ times d (with_null xs)
 with_null-multiplied d xs = fun_ext at
   where
     at : (k : ℕ) → with_null (multiplied d xs) k ≡ pos d *ℤ with_null xs k

@@ -14,3 +14,5 @@ pub mod ClearedAmounts
 pub mod SupplyDemanded
 pub mod Solutions
 pub mod MarketUtilities
+pub mod FallingUtilities
+pub mod FairOutcomes

@@ -3,3 +3,5 @@ pub mod Completions
 pub mod Values
 pub mod Scales
 pub mod Utilities
+pub mod Scarcity
+pub mod Fairness

@@ -1,0 +1,3 @@
+pub mod AnswerPrices
+pub mod FairAnswers
+pub mod OtherOrders

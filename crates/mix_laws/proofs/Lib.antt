@@ -1,0 +1,9 @@
+pub mod SteeperFunctions
+pub mod ScarcerMarkets
+pub mod MoreWanted
+pub mod BestPrices
+pub mod UtilityOrders
+pub mod OtherOrders
+pub mod LargerMarkets
+pub mod FinerUnits
+pub mod InverseOrders
