@@ -1,4 +1,6 @@
 -- What the checker says of an outcome, and what follows where it says yes.
+use Rattle.std.specs.Prelude.{map}
+use Rattle.mix_clearing.specs.Fairness.{IsFair}
 use Rattle.mix_clearing.specs.Scales.{AreLeastOfFractions}
 use Rattle.mix_clearing.specs.Values.{AreWorthMost}
 use Rattle.mix_text.specs.Auctions.{AuctionText}
@@ -29,3 +31,9 @@ IsWorthMost a (Cleared answer) = AreWorthMost (utilities_of a) a.supply a.reserv
 abbrev pub IsLeastOfFractions : AuctionText → Outcome → Type 0
 IsLeastOfFractions a (Refused r) = Unit {0}
 IsLeastOfFractions a (Cleared answer) = AreLeastOfFractions (scaled_utilities_of a) a.supply a.reserve answer.prices.items
+
+-- an answer is fair: to no bidder is any other bundle at its cost worth more, nor are any other prices that clear
+abbrev pub IsFairOutcome : AuctionText → Outcome → Type 0
+IsFairOutcome a (Refused r) = Unit {0}
+IsFairOutcome a (Cleared answer) =
+    IsFair (scaled_utilities_of a) a.supply a.reserve answer.prices.items (bundles_of answer) (map (λ share. share.payment) answer.shares) answer.returns.items

@@ -7,7 +7,7 @@ ghost use Rattle.mix_answer.specs.Truths.{IsTrueAnswer, IsTrueOutcome};
 ghost use Rattle.mix_answer.specs.declared.outcome.Outcome.TheVariants.{Cleared, Refused};
 ghost use Rattle.mix_check.specs.Orders.{IsFirstReason, NoneBefore};
 ghost use Rattle.mix_check.specs.Tests.{AreTablesAt};
-ghost use Rattle.mix_check.specs.Verdicts.{GivesFirstReason, IsLeastOfFractions, IsVerdict, IsWorthMost};
+ghost use Rattle.mix_check.specs.Verdicts.{GivesFirstReason, IsFairOutcome, IsLeastOfFractions, IsVerdict, IsWorthMost};
 
 use crate::amounts::{above_reserves, add_up, returned_at_reserves};
 use crate::bundles::{demanded, paid};
@@ -22,7 +22,8 @@ use mix_text::Auction;
 use std::alloc::Global;
 
 /// Whether an outcome of the auction's shape is true: Yes exactly where it is, whichever tight pairs or facet it has; else the first reason why
-/// it isn't. Where it says yes of a cleared outcome, no allocation of the supply is worth more, and no prices with fractions clear below.
+/// it isn't. Where it says yes of a cleared outcome, no allocation of the supply is worth more, and no prices with fractions clear below;
+/// nor are any that clear better for a bidder, and none would rather have another bundle at its cost.
 ///
 /// `Memory` comes where memory is wanting.
 pub fn check(alloc: Global, auction: &Auction, outcome: &Outcome) -> Result<Verdict, Memory>
@@ -31,6 +32,7 @@ pub fn check(alloc: Global, auction: &Auction, outcome: &Outcome) -> Result<Verd
     ensures reason { IfOk result (GivesFirstReason (auction_text auction.now) outcome.now) }
     ensures worth { IfOk result (λ verdict. verdict ≡ Verdict.Yes → IsWorthMost (auction_text auction.now) outcome.now) }
     ensures fractions { IfOk result (λ verdict. verdict ≡ Verdict.Yes → IsLeastOfFractions (auction_text auction.now) outcome.now) }
+    ensures fair { IfOk result (λ verdict. verdict ≡ Verdict.Yes → IsFairOutcome (auction_text auction.now) outcome.now) }
 {
     match outcome {
         Outcome::Refused(refusal) => check_refusal(alloc, auction, refusal),

@@ -17,9 +17,12 @@ use Rattle.mix_market.specs.Lyapunov.{IsLeastPoint, lyapunov}
 use Rattle.mix_market.specs.Markets.{members_of, seller_of}
 use Rattle.mix_market.specs.declared.market.Market.{Market}
 use Rattle.mix_law.specs.Certificates.{IsFirstTightPair}
+use Rattle.mix_law.specs.Clearings.{AreLeastClearing, Clears}
+use Rattle.mix_clearing.specs.Fairness.{IsFair}
 use Rattle.mix_clearing.specs.Scales.{AreLeastOfFractions, KeepScales}
 use Rattle.mix_clearing.specs.Utilities.{KeepLaws}
 use Rattle.mix_clearing.specs.Values.{AreWorthMost}
+use Rattle.mix_clearing.proofs.FairOutcomes.{costs-where_each, fair-where_solved}
 use Rattle.mix_clearing.proofs.Fractions.{least_of_fractions}
 use Rattle.mix_clearing.proofs.Worths.{worth_most-where_clears}
 use Rattle.mix_answer.specs.Refusals.{AreConvex}
@@ -92,15 +95,29 @@ module _ (a : AuctionText) (answer : Answer) (is : IsAuction a) (convex : AreCon
   worth : AreWorthMost (utilities_of a) a.supply a.reserve (bundles_of answer) answer.returns.items
   worth = worth_most-where_clears (utilities_of a) a.supply a.reserve answer.prices.items (bundles_of answer) answer.returns.items (sound.sale.reserves.0) sound.own.solution.clear
 
+  -- the utilities go together at all scales
+  scales : KeepScales (length a.supply) (scaled_utilities_of a)
+  scales = subst (λ (n : ℕ). KeepScales n (scaled_utilities_of a)) (sym goods) (λ k l.
+      let there : k < length a.bidders = let m = length-scaled a in omega (arith, m, l) in
+      subst (λ (f : ℕ → Vector → ℤ). KeepsScales (length a.goods) f) (sym (scaled-there a k there))
+      (under_keeps_scales (length a.goods) (cap_at a.caps k) (list_at a.bidders k).bids (list_at_ok a k is there).bids (is.caps.positive k) (convex k there)))
+
   -- and no prices with fractions clear below
   fractions : AreLeastOfFractions (scaled_utilities_of a) a.supply a.reserve answer.prices.items
   fractions =
-      let keep = subst (λ (n : ℕ). KeepScales n (scaled_utilities_of a)) (sym goods) (λ k l.
-      let there : k < length a.bidders = let m = length-scaled a in omega (arith, m, l) in
-      subst (λ (f : ℕ → Vector → ℤ). KeepsScales (length a.goods) f) (sym (scaled-there a k there))
-      (under_keeps_scales (length a.goods) (cap_at a.caps k) (list_at a.bidders k).bids (list_at_ok a k is there).bids (is.caps.positive k) (convex k there))) in
-      least_of_fractions (scaled_utilities_of a) a.supply keep a.reserve answer.prices.items sound.own.range.0
+      least_of_fractions (scaled_utilities_of a) a.supply scales a.reserve answer.prices.items sound.own.range.0
       (subst (λ (fs : List (Vector → ℤ)). IsLeastPoint (length a.supply) (lyapunov fs a.supply) (with_null a.reserve) (with_null answer.prices.items)) (sym (utilities_once a)) sound.own.least)
+
+  -- the answer is fair
+  fair : IsFair (scaled_utilities_of a) a.supply a.reserve answer.prices.items (bundles_of answer) (map (λ share. share.payment) answer.shares) answer.returns.items
+  fair =
+      let some = is.some_goods in
+      let once = sym (utilities_once a) in
+      fair-where_solved (scaled_utilities_of a) a.supply a.reserve answer.prices.items (bundles_of answer) (map (λ share. share.payment) answer.shares) answer.returns.items
+      scales (subst (KeepLaws (length a.supply)) once sound.laws) (omega (arith, some, goods)) sound.sale.reserves.0
+      (subst (λ (fs : List (Vector → ℤ)). AreLeastClearing fs a.supply a.reserve answer.prices.items) once sound.own.solution.least)
+      (subst (λ (fs : List (Vector → ℤ)). Clears fs a.supply a.reserve answer.prices.items (bundles_of answer) answer.returns.items) once sound.own.solution.clear)
+      (costs-where_each (λ share. share.payment) (λ share. share.bundle.items) answer.prices.items answer.shares sound.own.payments)
 
 -- what is true of an answer to an auction
 pub record Solves (a : AuctionText) (answer : Answer) : Type 0 where
@@ -109,6 +126,7 @@ pub record Solves (a : AuctionText) (answer : Answer) : Type 0 where
   pub first_tights : HaveFirstTights a answer
   pub worth : AreWorthMost (utilities_of a) a.supply a.reserve (bundles_of answer) answer.returns.items
   pub fractions : AreLeastOfFractions (scaled_utilities_of a) a.supply a.reserve answer.prices.items
+  pub fair : IsFair (scaled_utilities_of a) a.supply a.reserve answer.prices.items (bundles_of answer) (map (λ share. share.payment) answer.shares) answer.returns.items
 
 -- the answer for the market of an auction is one to the auction
 pub solves_auction : {g : Ghosts Member} (a : AuctionText) (market : Market Member g) (answer : Answer) → IsAuction a → IsMarketOf a market
@@ -123,4 +141,5 @@ solves_auction a market answer is of laws own =
       first_tights = first_tights a answer is of.convex sound;
       worth = worth a answer is of.convex sound;
       fractions = fractions a answer is of.convex sound;
+      fair = fair a answer is of.convex sound;
     }

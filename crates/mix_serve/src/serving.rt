@@ -8,6 +8,7 @@ ghost use Rattle.mix_text.specs.Orders.{IsTieOrder};
 ghost use Rattle.mix_seller.specs.Sellers.{reserve_of, supply_of};
 ghost use Rattle.mix_market.specs.Lyapunov.{IsLeastPoint};
 ghost use Rattle.mix_market.specs.Markets.{goods_of, lyapunov_of, members_of, seller_of};
+ghost use Rattle.mix_clearing.specs.Fairness.{IsFair};
 ghost use Rattle.mix_clearing.specs.Scales.{AreLeastOfFractions};
 ghost use Rattle.mix_clearing.specs.Values.{AreWorthMost};
 ghost use Rattle.mix_answer.specs.Shapes.{HasAnswerShape};
@@ -30,7 +31,8 @@ use std::alloc::Global;
 ///
 /// The market is that of the auction, and the prices are the least point of its Lyapunov function at or above the reserves, from
 /// -1,000,000 to 1,000,000. No other allocation is worth more than that of the answer, and no prices with fractions clear below its
-/// prices. `Memory` comes where memory is wanting.
+/// prices; nor are any that clear better for a bidder, and none would rather have another bundle at its cost. `Memory` comes where
+/// memory is wanting.
 pub fn serve(
     alloc: Global,
     auction: &Auction,
@@ -46,6 +48,7 @@ pub fn serve(
     ensures first_tights { IfOk result (HaveFirstTights (auction_text auction.now)) }
     ensures worth { IfOk result (λ answer. AreWorthMost (utilities_of (auction_text auction.now)) auction.now.supply.items auction.now.reserve.items (bundles_of answer) answer.returns.items) }
     ensures fractions { IfOk result (λ answer. AreLeastOfFractions (scaled_utilities_of (auction_text auction.now)) auction.now.supply.items auction.now.reserve.items answer.prices.items) }
+    ensures fair { IfOk result (λ answer. IsFair (scaled_utilities_of (auction_text auction.now)) auction.now.supply.items auction.now.reserve.items answer.prices.items (bundles_of answer) (map (λ share. share.payment) answer.shares) answer.returns.items) }
 {
     let answer = answer_at(alloc, market, &auction.order, prices)?;
     Ok(answer)

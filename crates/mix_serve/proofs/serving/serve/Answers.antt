@@ -31,3 +31,6 @@ returns-clause-worth c = (solved c).worth
 
 pub returns-clause-fractions : goal.returns-clause-fractions
 returns-clause-fractions c = (solved c).fractions
+
+pub returns-clause-fair : goal.returns-clause-fair
+returns-clause-fair c = (solved c).fair
