@@ -15,7 +15,7 @@ static const char *bytes_of(SEXP value, const char *name) {
 
 static SEXP run(SEXP words_value, SEXP text_value) {
     const char *words = bytes_of(words_value, "words"), *text = bytes_of(text_value, "text");
-    size_t length = strlen(text), room = 4096 + 4 * length, needed = 0;
+    size_t length = strlen(text), room = 4096 + 20 * length, needed = 0;
     uint32_t status;
     char *out;
     for (;;) {

@@ -1,6 +1,8 @@
 /* An auction from a string to a table on standard output.
  *
  *     cc solve.c $(pkg-config --cflags --libs product_mix) && ./a.out
+ *
+ * Where the loader doesn't look in the library's folder, add -Wl,-rpath,$(pkg-config --variable=libdir product_mix).
  */
 #include <product_mix.h>
 #include <stdio.h>
@@ -18,7 +20,7 @@ static const char auction[] = "mix,1\n"
 
 /* The reply to a command on a text, with a zero after it, for the caller to free; NULL where memory was wanting. */
 static char *reply_to(const char *words, const char *text, uint32_t *status) {
-    size_t length = strlen(text), room = 4096 + 4 * length, needed = 0;
+    size_t length = strlen(text), room = 4096 + 20 * length, needed = 0;
     for (;;) {
         char *reply = malloc(room + 1);
         if (reply == NULL) {
