@@ -3,7 +3,7 @@
 import pickle
 import re
 from pathlib import Path
-from typing import Any, Tuple
+from typing import Any, Callable, Tuple
 
 import pytest
 from hypothesis import given
@@ -134,7 +134,7 @@ def test_whole_numbers_of_other_kinds() -> None:
     (Bid("7P", (1, 2)), "'7P' is no name"),
     (Bid("X" * 33, (1, 2)), "is no name"),
     (Bid("X\n", (1, 2)), "is no name"),
-    (Bid("X", (1,)), "1 values for 2 goods"),
+    (Bid("X", (1,)), "1 value for 2 goods"),
     (Bid("X", (1, 2, 3)), "3 values for 2 goods"),
     (Bid("X", (1.5, 2)), "1.5 is no whole number"),  # type: ignore[arg-type]
     (Bid("X", (True, 2)), "True is no number"),
@@ -161,13 +161,32 @@ def test_a_number_that_is_too_long_to_write() -> None:
 
 @pytest.mark.parametrize("auction, why", [
     (Auction(["A B"], [1], [0]), "'A B' is no name"),
-    (Auction(["A"], [1, 2], [0]), "supply has 2 numbers for 1 goods"),
-    (Auction(["A"], [1], []), "reserve has 0 numbers for 1 goods"),
+    (Auction(["A"], [1, 2], [0]), "supply has 2 numbers for 1 good"),
+    (Auction(["A"], [1], []), "reserve has 0 numbers for 1 good"),
     (Auction(["A"], [1], [0], order=["7"]), "'7' is no name"),
 ])
 def test_an_auction_that_has_no_text(auction: Auction, why: str) -> None:
     with pytest.raises(ValueError, match=re.escape(why)):
         auction.text()
+
+
+LISTED = "write a list of numbers, in the order of the goods"
+
+
+@pytest.mark.parametrize("make, why", [
+    (lambda: Auction("tin", [1], [0]), "goods is a str: write a list of names"),
+    (lambda: Auction(["tin"], {"tin": 1}, [0]), "supply is a dict: " + LISTED),
+    (lambda: Auction(["tin"], [1], 5), "reserve is an int: " + LISTED),
+    (lambda: Auction(["tin"], [1], [0], order="Ann"), "order is a str: write a list of names"),
+    (lambda: Auction(["tin"], [1], [0], Bid("Ann", [5])), "bids is a Bid: write a list of Bid(bidder, values, weight)"),
+    (lambda: Auction(["tin"], [1], [0], [("Ann", [5], 1)]), "bid 1 is a tuple: write Bid(bidder, values, weight)"),
+    (lambda: Bid("Ann", {"tin": 5}), "values is a dict: " + LISTED),
+    (lambda: Auction(["tin"], [1], [0]).bid("Ann", 1, {"tin": 5}), "values is a dict: " + LISTED),
+])
+def test_what_is_no_list(make: Callable[[], Any], why: str) -> None:
+    with pytest.raises(FormError) as caught:
+        make()
+    assert str(caught.value) == why
 
 
 def test_a_format_that_cannot_say_it() -> None:
@@ -188,7 +207,8 @@ def test_a_format_that_does_not_exist(format: Any) -> None:
 @pytest.mark.parametrize("text, line, why", [
     ("mix,4\nend\n", 1, "no such format"),
     ("mix,1\ngoods,A\n\nsupply,1.5\n", 4, "'1.5' is no number"),
-    ("mix,1\ngoods,A\nsupply,1\nreserve,0\nbid,X,1\nend\n", 5, "2 fields after the word"[2:]),
+    ("mix,1\ngoods,A\nsupply,1\nreserve,0\nbid,X,1\nend\n", 5, "there should be 3 fields after the word"),
+    ("mix,1,2\ngoods,A\n", 1, "there should be 1 field after the word"),
     ("mix,1\ngoods,A\nsupply,1\nreserve,0\nbid,X,1,05\nend\n", 5, "'05' is no number"),
     ("mix,1\ngoods,A\nsupply,1\nreserve,0\norder,X\nend\n", 5, "a row 'end' should stand here"),
     ("mix,1\ngoods,A\nsupply,1\nreserve,0\nend\nend\n", 6, "no row should stand here"),

@@ -5,15 +5,19 @@ import operator
 from dataclasses import dataclass, field, replace
 from typing import Callable, Dict, Iterable, List, Mapping, Optional, Sequence, Set, Tuple
 
-from ._errors import FormError, shortened
+from ._errors import FormError, counted, kind_of, shortened
 from ._text import NOTHING, Row, Rows, TextOrPath, contents, form_error, read_name, read_number
-from ._writing import row, spelled_amounts, spelled_name, spelled_number, text_of
+from ._writing import listed_values, row, spelled_amounts, spelled_name, spelled_number, text_of
 
 FORMATS = (1, 2, 3)
 # What format 1 can say; where there is more, the least format is a later one.
 MOST_GOODS = 5
 MOST_BIDDERS = 64
 MOST_NEGATIVES = 12
+
+# What the parts of an auction are lists of.
+_NAMES, _NUMBERS, _BIDS = "names", "numbers, in the order of the goods", "Bid(bidder, values, weight)"
+_LISTS = {"goods": _NAMES, "supply": _NUMBERS, "reserve": _NUMBERS, "bids": _BIDS}
 
 
 @dataclass(frozen=True)
@@ -29,7 +33,7 @@ class Bid:
 
     def __post_init__(self) -> None:
         if type(self.values) is not tuple:
-            object.__setattr__(self, "values", tuple(self.values))
+            object.__setattr__(self, "values", listed_values("values", self.values, _NUMBERS))
 
 
 @dataclass(frozen=True)
@@ -37,7 +41,8 @@ class Auction:
     """An auction: goods, of each the supply and the reserve price, bids, caps by bidder, and the tie order.
 
     ``order`` names all bidders, the first one is served first; where it is None they come in the order of their first
-    bids. Nothing is looked at but the form, and that when the auction is written: what the program takes, it says.
+    bids. Supply and reserve stand in the order of the goods. Nothing is looked at but
+    the form, and that of names and numbers when the auction is written: what the program takes, it says.
 
     >>> auction = Auction(goods=["inside", "outside"], supply=[2, 2], reserve=[10, 6])
     >>> auction = auction.bid("Ann", 1, inside=40).bid("Bo", 2, inside=24, outside=16)
@@ -61,11 +66,12 @@ class Auction:
     order: Optional[Sequence[str]] = None
 
     def __post_init__(self) -> None:
-        for name in ("goods", "supply", "reserve", "bids"):
-            object.__setattr__(self, name, tuple(getattr(self, name)))
+        for name, wanted in _LISTS.items():
+            object.__setattr__(self, name, listed_values(name, getattr(self, name), wanted))
+        _look_at_bids(self.bids)
         object.__setattr__(self, "caps", dict(self.caps))
         if self.order is not None:
-            object.__setattr__(self, "order", tuple(self.order))
+            object.__setattr__(self, "order", listed_values("order", self.order, _NAMES))
 
     @property
     def bidders(self) -> Tuple[str, ...]:
@@ -188,6 +194,13 @@ def format_or_least(format: Optional[int], auction: Auction) -> int:
     return format
 
 
+def _look_at_bids(bids: Iterable[object]) -> None:
+    """All of them have to be bids."""
+    for number, bid in enumerate(bids, 1):
+        if not isinstance(bid, Bid):
+            raise FormError("bid %d is %s: write %s" % (number, kind_of(bid), _BIDS))
+
+
 def _most_negatives(bids: Iterable[Bid]) -> int:
     """The most bids of negative weight that one bidder has."""
     counts: Dict[str, int] = {}
@@ -262,7 +275,7 @@ def bid_row(word: str, bid: Bid, goods: int, known: Set[str], what: str) -> str:
         if bid.bidder not in known:
             known.add(spelled_name(bid.bidder))
         if len(bid.values) != goods:
-            raise FormError("it has %d values for %d goods" % (len(bid.values), goods))
+            raise FormError("it has %s for %s" % (counted(len(bid.values), "value"), counted(goods, "good")))
         return ",".join([word, bid.bidder, spelled_number(bid.weight), *map(_spelled_value, bid.values)])
     except ValueError as error:
         # Python's own is of a number that is too long.

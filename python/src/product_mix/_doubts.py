@@ -5,6 +5,7 @@ from dataclasses import dataclass
 from typing import Dict, Iterator, List, Sequence, Tuple
 
 from ._auction import Auction, Bid
+from ._errors import counted
 from ._source import AuctionOrText
 
 
@@ -60,8 +61,8 @@ def _heavy_bids(auction: Auction) -> Iterator[Doubt]:
         if abs(bid.weight) > supply:
             goods = " or ".join(good for good, *_ in offers)
             verb = "bids for" if bid.weight > 0 else "takes back"
-            yield Doubt("weight", "%s %s %d units of %s, and %d are for sale"
-                        % (bid.bidder, verb, abs(bid.weight), goods, supply), (bid,))
+            yield Doubt("weight", "%s %s %s of %s, and %d are for sale"
+                        % (bid.bidder, verb, counted(abs(bid.weight), "unit"), goods, supply), (bid,))
 
 
 def _low_bids(auction: Auction) -> Iterator[Doubt]:
@@ -93,7 +94,7 @@ def _loose_caps(auction: Auction) -> Iterator[Doubt]:
         bids = tuple(bid for bid in auction.bids if bid.bidder == bidder)
         weight = sum(bid.weight for bid in bids)
         if bids and cap >= weight:
-            yield Doubt("cap", "%s has a cap of %d, and bids for %d units in all" % (bidder, cap, weight), bids)
+            yield Doubt("cap", "%s has a cap of %d, and bids for %s in all" % (bidder, cap, counted(weight, "unit")), bids)
 
 
 def _cancelled(auction: Auction) -> Iterator[Doubt]:

@@ -18,6 +18,17 @@ def shortened(text: str) -> str:
     return text if len(text) <= MOST_SHOWN else text[:MOST_SHOWN] + ".."
 
 
+def counted(count: int, one: str, many: Optional[str] = None) -> str:
+    """So many of what is called so; many of them by an `s`, unless told."""
+    return "%d %s" % (count, one if count == 1 else many or one + "s")
+
+
+def kind_of(value: object) -> str:
+    """What kind of value it is, with its article."""
+    kind = type(value).__name__
+    return "%s %s" % ("an" if kind[0] in "aeiouAEIOU" else "a", kind)
+
+
 class ProductMixError(Exception):
     """Whatever this package raises of its own."""
 

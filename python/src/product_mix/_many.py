@@ -6,6 +6,7 @@ from collections import Counter
 from contextlib import closing
 from typing import Iterable, Iterator, List, Optional
 
+from ._errors import counted
 from ._lines import CLEARED, FAULTY, LIMIT, REFUSED, LineFile, digest_of, line_of
 from ._pool import ExecutorOrMaker, Pool, run_all
 from ._program import PathName
@@ -27,9 +28,9 @@ class Tally:
         print("%s: %s" % (name, why), file=sys.stderr)
 
     def __str__(self) -> str:
-        told = "%d texts: %d cleared, %d refused, %d faulty, %d past a limit" % (
-            sum(self.statuses.values()) + self.failed,
-            *[self.statuses[status] for status in (CLEARED, REFUSED, FAULTY, LIMIT)])
+        told = counted(sum(self.statuses.values()) + self.failed, "text")
+        told += ": %d cleared, %d refused, %d faulty, %d past a limit" % tuple(
+            [self.statuses[status] for status in (CLEARED, REFUSED, FAULTY, LIMIT)])
         for count, what in ((self.failed, "without an answer, as told: the same command tries them again"),
                             (self.before, "were done before"),
                             (self.left_out, "files of other names were left out")):

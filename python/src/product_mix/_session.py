@@ -5,7 +5,7 @@ from typing import Any, List, Optional, Sequence, Set, Type, Union
 
 from ._answers import read_outcomes
 from ._auction import Auction, Bid, bid_row
-from ._errors import FormError, ProgramError
+from ._errors import FormError, ProgramError, counted
 from ._outcome import Cleared, Refused
 from ._program import PathName
 from ._solver import Solver
@@ -86,7 +86,7 @@ class Session:
         rest = rows_part("session", [*self._rows, "close"], self._bids)
         outcomes = self._solver.answer(["session"], [self._source.part, rest], read_outcomes, lambda: self.auction.goods)
         if len(outcomes) != len(self.auctions):
-            raise ProgramError("it printed %d outcomes, and %d were asked for" % (len(outcomes), len(self.auctions)))
+            raise ProgramError("it printed %s, and %d were asked for" % (counted(len(outcomes), "outcome"), len(self.auctions)))
         self.outcomes = outcomes
         return self.outcomes
 

@@ -7,7 +7,7 @@ import os
 import re
 from typing import Iterator, List, NamedTuple, Optional, Tuple, Union
 
-from ._errors import FormError, shortened
+from ._errors import FormError, counted, shortened
 
 #: A text, or the file that it stands in: a str with a line break in it, or without a character, is a text, any other
 #: str and every path the name of a file; bytes are a text.
@@ -155,7 +155,7 @@ class Rows:
         if row.fields[0] != word:
             raise form_error(row, "a row %r should stand here" % word)
         if count is not None and len(row.fields) != count + 1:
-            raise form_error(row, "there should be %d fields after the word" % count)
+            raise form_error(row, "there should be %s after the word" % counted(count, "field"))
         self._next = next(self._rows, None)
         return row
 

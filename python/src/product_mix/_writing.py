@@ -1,9 +1,9 @@
 """How rows are written, and what can't be."""
 
 import operator
-from typing import Iterable, List, Sequence
+from typing import Any, Iterable, List, Mapping, Sequence, Tuple
 
-from ._errors import FormError, shortened
+from ._errors import FormError, counted, kind_of, shortened
 from ._text import NAME
 
 
@@ -15,6 +15,13 @@ def text_of(rows: Sequence[str]) -> str:
 def row(word: str, fields: Iterable[str]) -> str:
     """A row of these fields."""
     return ",".join([word, *fields])
+
+
+def listed_values(what: str, values: Any, wanted: str) -> Tuple[Any, ...]:
+    """The values in their order. A str would be taken letter by letter, and of a mapping the names alone."""
+    if isinstance(values, (str, bytes, Mapping)) or not isinstance(values, Iterable):
+        raise FormError("%s is %s: write a list of %s" % (what, kind_of(values), wanted))
+    return tuple(values)
 
 
 def spelled_name(name: str) -> str:
@@ -47,5 +54,5 @@ def _whole(number: object) -> int:
 def spelled_amounts(what: str, amounts: Sequence[int], goods: int) -> List[str]:
     """The digits of a number for each good."""
     if len(amounts) != goods:
-        raise FormError("%s has %d numbers for %d goods" % (what, len(amounts), goods))
+        raise FormError("%s has %s for %s" % (what, counted(len(amounts), "number"), counted(goods, "good")))
     return [spelled_number(amount) for amount in amounts]
