@@ -171,8 +171,8 @@ def test_a_number_of_workers(here: Path, capsys: pytest.CaptureFixture[str]) -> 
 
 
 @pytest.mark.parametrize("words, module, wanted", [
-    (["--dask", "tcp://127.0.0.1:1"], "dask", "--dask wants the package distributed"),
-    (["--mpi"], "mpi4py.futures", "--mpi wants the package mpi4py")])
+    (["--dask", "tcp://127.0.0.1:1"], "dask", "pip install distributed"),
+    (["--mpi"], "mpi4py.futures", "pip install mpi4py")])
 def test_engines_that_are_not_installed(here: Path, words: List[str], module: str, wanted: str,
                                         monkeypatch: pytest.MonkeyPatch, capsys: pytest.CaptureFixture[str]) -> None:
     monkeypatch.setitem(sys.modules, module, None)

@@ -42,7 +42,7 @@ def test_frames() -> None:
 def test_a_frame_without_pandas(monkeypatch: pytest.MonkeyPatch) -> None:
     modules: Any = sys.modules
     monkeypatch.setitem(modules, "pandas", None)
-    with pytest.raises(ImportError, match=r"pip install 'product-mix\[tables\]'"):
+    with pytest.raises(ImportError, match="pip install pandas"):
         cleared(STALLS).to_frame()
 
 
@@ -74,6 +74,11 @@ def test_a_weight_above_all_supply() -> None:
     assert warnings(WINE.bid("Ada", 13, red=60)) == [
         Doubt("weight", "Ada bids for 13 units of red, and 12 are for sale", (Bid("Ada", (60, None), 13),))]
     assert kinds(WINE.bid("Ada", 21, red=60, white=60)) == [("weight", 1)]
+
+
+def test_doubts_about_one_unit() -> None:
+    auction = Auction(["A", "B"], [0, 1], [0, 0]).bid("P", 1, A=5)
+    assert str(warnings(auction)[0]) == "P bids for 1 unit of A, and 0 are for sale"
 
 
 def test_a_bid_below_the_reserves() -> None:

@@ -46,6 +46,6 @@ def frame_of(lines: Sequence[Tuple[Any, ...]], columns: Sequence[str]) -> Any:
     try:
         import pandas
     except ImportError as error:
-        raise ImportError("a frame wants pandas: pip install 'product-mix[tables]'") from error
+        raise ImportError("a frame wants pandas: pip install pandas") from error
     frame = pandas.DataFrame(lines, columns=list(columns))
     return frame.astype({column: _WHOLE for column in columns if column not in _NAMES})

@@ -72,7 +72,7 @@ def _dask_client(address: str) -> Any:
     try:
         from dask import distributed
     except ImportError as error:
-        raise ProductMixError("--dask wants the package distributed: %s" % error) from error
+        raise ProductMixError("--dask wants the package distributed, by pip install distributed: %s" % error) from error
     connect: Any = distributed.Client
     try:
         return connect(address)
@@ -85,7 +85,7 @@ def _mpi_pool(workers: Optional[int]) -> Any:
     try:
         from mpi4py.futures import MPIPoolExecutor
     except ImportError as error:
-        raise ProductMixError("--mpi wants the package mpi4py and a library of MPI: %s" % error) from error
+        raise ProductMixError("--mpi wants the package mpi4py, by pip install mpi4py, and a library of MPI: %s" % error) from error
     return MPIPoolExecutor(workers)
 
 
