@@ -119,6 +119,32 @@ def test_a_fault_of_another_part(call: Call, source: str, line: int, code: str, 
     assert (fault.source, fault.line, fault.code, fault.field) == (source, line, code, field)
 
 
+@pytest.mark.parametrize("call, advice", [
+    (lambda: solve(STALLS.bid("Dan", 1, inside=-5)), "The number is negative"),
+    (lambda: solve(Auction(["A"], [1], [-1])), "The number is negative"),
+    (lambda: solve(STALLS.bid("Dan", -20000, inside=5)), "The number is too small or too large"),
+    (lambda: solve(HEAD + "bid,Ada,1,2000000,5\nend\n"), "The number is too small or too large"),
+    (lambda: trade_range(OTTO, {"Otto": [-1]}, 9), "The number is negative"),
+    (lambda: solve(ORDERED + "order,P\nend\n"), "`order` names every bidder once."),
+    (lambda: solve(HEAD + "bid,Ada,6,55\nend\n"), "The row has too few fields or too many."),
+    (lambda: trade_range(OTTO, {"Ada": [1]}, 9), "No bid stands under this name. Copy it from the bids."),
+    (lambda: trade_range(OTTO, {"Otto": [1]}, 9), "A unit is owned of a good whose reserve isn't 0."),
+])
+def test_advice_that_knows_the_field(call: Call, advice: str) -> None:
+    assert told(call).advice.startswith(advice)
+
+
+@pytest.mark.parametrize("call, why", [
+    (lambda: check(cleared(STALLS), STALLS), "an auction stands in the place of the outcome"),  # type: ignore[arg-type]
+    (lambda: upgrade(cleared(STALLS), STALLS), "an auction stands in the place of the outcome"),  # type: ignore[arg-type]
+    (lambda: solve(cleared(STALLS)), "an outcome stands in the place of the auction"),  # type: ignore[arg-type]
+])
+def test_arguments_in_another_order(call: Call, why: str) -> None:
+    with pytest.raises(FormError) as caught:
+        call()
+    assert str(caught.value) == why + ": the auction is the first argument, its outcome the second"
+
+
 def test_a_fault_of_a_session() -> None:
     session = Session(STALLS)
     session.clear()

@@ -148,8 +148,8 @@ HEAD = "good,supply,reserve\nA,5,1\nB,6,2\n\nbidder,quantity,A,B\n"
                  "or drop the row."),
     ("Ada,0,4,", "bids.csv, row 6, column B (quantity): '0' has the fault weight. A bid of weight 0 says nothing. Write for "
                  "how many units it is, or drop the row."),
-    ("Ada,1,-4,", "bids.csv, row 6, column C (A): '-4' has the fault range. The number is too small or too large for its place. "
-                  "Take a larger unit for all values and reserves, or for all supplies and weights."),
+    ("Ada,1,-4,", "bids.csv, row 6, column C (A): '-4' has the fault range. The number is negative, and here it has to be at "
+                  "least 0. Look for a '-' too many."),
     ("Ada,1,€4,$5", "bids.csv, row 6, column D (B): '$5' has another currency than €4 in C6"),
     ('Ada,1,"1,500",', "bids.csv, row 6, column C (A): '1,500' may be 1500 or 1.500: say --decimal . or --decimal ,"),
     ('Ada,1,"4,0",4.0', "bids.csv, row 6, column D (B): '4.0' has a decimal point, and 4,0 in C6 a decimal comma"),

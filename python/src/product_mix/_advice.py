@@ -2,7 +2,7 @@
 
 from typing import Mapping, Optional, Sequence
 
-# By the code of a fault; where the word of the row tells more, by both.
+# By the code of a fault; where the word of the row or what is known of its fields tells more, by both.
 _FAULTS = {
     "header": "The first row is none of mix,1, mix,2 and mix,3. Mend it; a file that was saved with semicolons has to be "
               "saved with commas.",
@@ -10,6 +10,7 @@ _FAULTS = {
     "place": "This word may not stand here: after goods, supply and reserve come bids and then end; caps stand after the "
              "bids in format 3, order before end in formats 2 and 3. Look for a misspelled word, or for a row that is "
              "missing or stands twice.",
+    "fields order": "`order` names every bidder once. Copy them from the bids.",
     "fields": "The row has too few fields or too many. Write '-' for a good that a bid leaves out.",
     "name": "A name is a letter, then letters, digits, '_', '-' or '.', at most 32 characters, without blanks and "
             "without marks on letters: Ada_Lovelace, B7, Zuerich.",
@@ -18,6 +19,7 @@ _FAULTS = {
               "decimals take a smaller unit, as cents.",
     "range": "The number is too small or too large for its place. Take a larger unit for all values and reserves, or for "
              "all supplies and weights.",
+    "range negative": "The number is negative, and here it has to be at least 0. Look for a '-' too many.",
     "range outcome": "The version of the outcome isn't that of its auction: 1 for format 1, 2 for formats 2 and 3.",
     "range own": "The number is too small or too large, or the supply of a good and all that is owned of it are more than "
                  "1,000,000.",
@@ -35,6 +37,9 @@ _FAULTS = {
     "other cap": "No bid stands under this name. Copy it from the bids.",
     "other order": "The row wants the name of every bidder once. Copy them from the bids.",
     "other drop": "There is no such bidder at this point of the session.",
+    "other owner": "No bid stands under this name. Copy it from the bids.",
+    "other owned": "A unit is owned of a good whose reserve isn't 0. An owner sells at any price: set the reserve to 0, or "
+                   "leave the good out.",
     "other own": "No bid stands under this name, or a unit is owned of a good whose reserve isn't 0: an owner sells at any "
                  "price, so set the reserve to 0, or leave the good out.",
 }
@@ -62,9 +67,9 @@ _MOST: Mapping[str, Sequence[int]] = {
 }
 
 
-def advice_for_fault(code: str, word: str, command: str) -> str:
-    """What to do about a fault in a row that begins with a word, with a command."""
-    for key in ("%s %s" % (code, word), "%s %s" % (code, command), code):
+def advice_for_fault(code: str, word: str, command: str, known: str = "") -> str:
+    """What to do about a fault in a row that begins with a word, with a command, and with what is known of its field."""
+    for key in ("%s %s" % (code, known), "%s %s" % (code, word), "%s %s" % (code, command), code):
         if key in _FAULTS:
             return _FAULTS[key]
     return "docs/ERRORS.md says what to do."

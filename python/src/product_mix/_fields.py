@@ -47,6 +47,17 @@ def field_of(code: str, rows: Sequence[Fields]) -> Optional[Field]:
     return Field(number, name, fields[number - 1])
 
 
+def known_of(code: str, rows: Sequence[Fields], field: Optional[Field]) -> str:
+    """What is known of the field with the fault, where that tells more than the code and the row: a word, or none."""
+    if field is None:
+        return ""
+    if code == "range" and field.content.startswith("-") and _slots_of(rows)[field.number - 2].least == 0:
+        return "negative"
+    if code == "other" and rows[-1][0] == "own":
+        return "owner" if field.number == 2 else "owned"
+    return ""
+
+
 def _first(is_failing: Sequence[bool]) -> int:
     """The number of the first field after the word of which this is so; 0 where there is none."""
     return is_failing.index(True) + 2 if True in is_failing else 0

@@ -6,7 +6,7 @@ from typing import List, NamedTuple, Optional, Sequence
 
 from ._advice import advice_for_fault, advice_for_limit, most_of
 from ._errors import Fault, PastLimit, Place, TextError
-from ._fields import field_of
+from ._fields import field_of, known_of
 from ._source import Part, place_of
 
 _TOLD = re.compile(rb"(fault|limit),(0|[1-9][0-9]*),([a-z]+)\n")
@@ -38,8 +38,9 @@ def error_at(told: Told, place: Place, rows: Sequence[List[str]], command: str) 
         return PastLimit(told.row, told.code, most_of(told.code, _format_in(rows)), place, advice_for_limit(told.code))
     if not place.text:
         return Fault(told.row, told.code, place, advice_for_fault(told.code, "", command))
-    place = replace(place, field=field_of(told.code, rows))
-    return Fault(told.row, told.code, place, advice_for_fault(told.code, rows[-1][0], command))
+    field = field_of(told.code, rows)
+    advice = advice_for_fault(told.code, rows[-1][0], command, known_of(told.code, rows, field))
+    return Fault(told.row, told.code, replace(place, field=field), advice)
 
 
 def _format_in(rows: Sequence[List[str]]) -> int:

@@ -5,7 +5,7 @@ from typing import Callable, List, Mapping, NamedTuple, Optional, Sequence, Tupl
 
 from ._auction import Auction, Bid
 from ._errors import FormError, Place
-from ._outcome import Amounts, Cleared, Refused, spelled_by_good
+from ._outcome import Amounts, Cleared, Outcome, Refused, spelled_by_good
 from ._text import TextOrPath, contents, count_lines, rows_of, without_marks
 from ._writing import row, spelled_amounts, spelled_name, text_of
 
@@ -15,6 +15,9 @@ OutcomeOrText = Union[Cleared, Refused, TextOrPath]
 
 #: A number for each good, by its name or in the order of the goods.
 AmountsOrList = Union[Amounts, Sequence[int]]
+
+# What is said where the arguments stand in another order.
+_SWAPPED = "an %s stands in the place of the %s: the auction is the first argument, its outcome the second"
 
 # The rows of an auction before its bids.
 HEAD = ("mix", "goods", "supply", "reserve")
@@ -46,6 +49,8 @@ class Source:
     """An auction that is sent, and what is needed of it to read the answer."""
 
     def __init__(self, auction: AuctionOrText, format: Optional[int] = None) -> None:
+        if isinstance(auction, Outcome):
+            raise FormError(_SWAPPED % ("outcome", "auction"))
         self.auction = auction if isinstance(auction, Auction) else None
         if isinstance(auction, Auction):
             bids = [*[None] * len(HEAD), *auction.bids]
@@ -93,6 +98,8 @@ def part_after(source: Source, name: str, rows: Callable[[], Sequence[str]]) -> 
 
 def with_outcome(auction: AuctionOrText, outcome: OutcomeOrText) -> Tuple[Source, Part]:
     """An auction and an outcome of it, in formats that go together."""
+    if isinstance(outcome, Auction):
+        raise FormError(_SWAPPED % ("auction", "outcome"))
     if not isinstance(outcome, (Cleared, Refused)):
         part = part_of("outcome", outcome)
         return Source(auction, _format_with(auction, part)), part
