@@ -6,7 +6,7 @@ from typing import Dict, List, Optional, Tuple
 import pytest
 from hypothesis import given, settings
 
-from product_mix import Auction, Bid, Cleared, solve, utility, validate
+from product_mix import Auction, Bid, Cleared, Refused, solve, utility, validate
 from product_mix._explaining import Bounds, Sentences
 from product_mix._shown import Shown
 from product_mix._standing import FILLED, PARTLY, UNFILLED, Standing, standings, torn
@@ -122,6 +122,25 @@ Bo has 1 of inside and could have no more: of inside and outside together it wan
     assert "at the edge, as permit or nothing are as good for it" in run("explain", example("shared-tie"))[1]
 
 
+@pytest.mark.parametrize("first, second, without", [
+    ("3,0", "4,3", ""),
+    ("3,1", "2,0", ", with units that it might go without,"),
+])
+def test_who_goes_without_none(first: str, second: str, without: str, run: Run, tmp_path: Path) -> None:
+    """Bo has B for nothing: of the first two it leaves 3, of the others nothing, so going without were as good."""
+    text = tmp_path / "auction.csv"
+    text.write_text("mix,1\ngoods,A,B\nsupply,1,1\nreserve,0,0\nbid,Ann,1,%s\nbid,Bo,1,%s\nend\n" % (first, second))
+    told = run("explain", text, "--bidder", "Bo")[1]
+    assert told.splitlines()[-1] == (
+        "Bo has 0 of A and could have no more: of A and B together%s it wants at most 1 unit at these prices and at least "
+        "1 unit of B%s must go to it, as the others can't take more." % (without, without))
+
+
+def test_who_goes_without_some(run: Run) -> None:
+    told = run("explain", example("shared-tie"))[1]
+    assert "of permit, with the units that it goes without, it wants at most" in told
+
+
 def test_all_bidders(run: Run) -> None:
     assert run("explain", STALLS)[1].count("could have no more") == 3
     status, out, _ = run("explain", example("at-most-four"))
@@ -137,6 +156,9 @@ def test_a_refused_list(run: Run, tmp_path: Path) -> None:
         "The list of Dan stands for no demand. It fails at the prices 29 for inside and 23 for outside:")
     assert "  - bid 3 of Dan: a bid that takes back 1 unit of inside at up to 30 or outside at up to 24\n" in out
     assert "bid 1 of Dan" not in out and "add up to -1:" in out
+    auction = Auction.read(text)
+    refused = solve(auction)
+    assert isinstance(refused, Refused) and refused.explain(auction) + "\n" == out
 
 
 def test_who_meets() -> None:

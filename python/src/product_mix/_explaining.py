@@ -11,6 +11,7 @@ from ._standing import FILLED, PARTLY, Standing, standings, torn
 Utilities = Callable[[Amounts], Mapping[str, int]]
 
 NOTHING = "nothing"
+WITHOUT: FrozenSet[Choice] = frozenset({None})
 
 
 def listed(words: Sequence[str], last: str = "and") -> str:
@@ -99,26 +100,34 @@ class Sentences:
         """What a tight pair says, in a sentence."""
         bounds = Bounds(self.auction, outcome, most, utilities)
         has = outcome.shares[pair.bidder].bundle
-        name, good = self.shown.bidder(pair.bidder), self.shown.good(pair.good)
+        name, good, without = self.shown.bidder(pair.bidder), self.shown.good(pair.good), _without(bounds, pair.bidder)
         said = ["%s has %d of %s and could have no more: of %s it wants at most %s at these prices" % (
-            name, has[pair.good], good, self._together(pair.upper), units(bounds.may(pair.bidder, pair.upper)))]
+            name, has[pair.good], good, self._together(pair.upper, without), units(bounds.may(pair.bidder, pair.upper)))]
         before = [other for other in self.auction.goods[:list(self.auction.goods).index(pair.good)]]
         held = [other for other in before if other in pair.upper and other not in pair.lower and has[other]]
         if held:
             said.append("it has %s" % listed(["%d of %s" % (has[other], self.shown.good(other)) for other in held]))
         if pair.lower:
-            said.append(self._must(pair, bounds.must(pair.bidder, pair.lower)))
+            said.append(self._must(pair, bounds.must(pair.bidder, pair.lower), without))
         return listed(said) + "."
 
-    def _together(self, choices: FrozenSet[Choice]) -> str:
+    def _together(self, choices: FrozenSet[Choice], without: str) -> str:
         """A set of choices, counted together."""
         goods = self.choices(choices - {None}, "and") + (" together" if len(choices - {None}) > 1 else "")
-        return goods + (", with the units that it goes without," if None in choices else "")
+        return goods + (without if None in choices else "")
 
-    def _must(self, pair: Tight, must: int) -> str:
-        if pair.lower == {None}:
+    def _must(self, pair: Tight, must: int, without: str) -> str:
+        if pair.lower == WITHOUT:
             return "it has to go without at least %s, as the others can't" % units(must)
-        return "at least %s of %s must go to it, as the others can't take more" % (units(must), self._together(pair.lower))
+        return "at least %s of %s must go to it, as the others can't take more" % (
+            units(must), self._together(pair.lower, without))
+
+
+def _without(bounds: "Bounds", bidder: str) -> str:
+    """How the units are called that a bidder goes without, where it does, or might at these prices."""
+    if bounds.has(bidder, WITHOUT):
+        return ", with the units that it goes without,"
+    return ", with units that it might go without," if bounds.may(bidder, WITHOUT) else ""
 
 
 class Bounds:
@@ -141,7 +150,7 @@ class Bounds:
         order = list(self.auction.tie_order)
         at = order.index(bidder)
         rest = self._all(choices) - self._seller_may(choices)
-        rest -= sum(self._has(other, choices) for other in order[:at])
+        rest -= sum(self.has(other, choices) for other in order[:at])
         return rest - sum(self.may(other, choices) for other in order[at + 1:])
 
     def bound(self, pair: Tight) -> int:
@@ -165,7 +174,8 @@ class Bounds:
         return sum(supply for good, supply, reserve in zip(self.auction.goods, self.auction.supply, self.auction.reserve)
                    if good in choices and self.outcome.prices[good] == reserve)
 
-    def _has(self, bidder: str, choices: FrozenSet[Choice]) -> int:
+    def has(self, bidder: str, choices: FrozenSet[Choice]) -> int:
+        """How much of the set the bidder has."""
         bundle: Dict[Choice, int] = {good: count for good, count in self.outcome.shares[bidder].bundle.items()}
         bundle[None] = self.most[bidder] - sum(bundle.values())
         return sum(bundle[choice] for choice in choices)

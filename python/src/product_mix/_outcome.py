@@ -134,6 +134,13 @@ class Refused(Outcome):
     facet: Facet
     cleared = False
 
+    def explain(self, auction: Auction) -> str:
+        """Where the list fails, and which of its bids of the auction meet there, in words."""
+        # These sentences are on outcomes, and so stand in a module above this one.
+        from ._explaining import Sentences
+        from ._shown import Shown
+        return "\n".join(Sentences(auction, Shown()).refusal(self))
+
     def _own_rows(self, goods: Sequence[str]) -> Iterator[str]:
         yield row("refused", [
             spelled_name(self.bidder), *map(_spelled_choice, self.facet.choices),
