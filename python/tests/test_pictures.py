@@ -11,11 +11,13 @@ from typing import Any, Dict, List, Optional, Sequence, Tuple
 import pytest
 
 from product_mix import (
-    Auction, Bid, Cleared, Facet, FormError, Outcome, Refused, Share, Step, Trail, generate, picture, solve, utility,
+    Auction, Bid, Cleared, Facet, FormError, Outcome, Refused, Share, Step, Trail, generate, picture, solve, trail, utility,
 )
-from product_mix._pictures.axes import frame_of, range_of, step_for
+from product_mix._pictures.axes import frame_of, part_in, range_of, step_for
 from product_mix._pictures.facets import BOTH, FIRST, SECOND, Facet as Change, Unit, facets_of, wanted
+from product_mix._pictures.labels import box_at
 from product_mix._pictures.marks import PALETTE
+from product_mix._pictures.svg import FONT
 from product_mix._shown import Shown
 
 from conftest import EXAMPLES, TOP
@@ -122,6 +124,24 @@ def test_the_trail() -> None:
     drawn = picture(one, trail=Trail((Step(frozenset(["A"]), 3, -1),), {"A": 5}), span=[(0, 10)])
     # 34 pixels for a unit, up the left side.
     assert "trail 86 332 86 230" in geometry(drawn)
+
+
+def test_a_region_that_no_line_parts_is_named_once() -> None:
+    """Below Nord's bid that takes back it wants 40 of each, also where a bid finds both as good."""
+    auction, _ = of_example("swap")
+    assert texts(picture(auction, bidder="Nord")).count("40, 40") == 1
+
+
+def test_no_region_is_named_on_the_way_of_the_prices() -> None:
+    """The way goes through the middle of what is too dear, where the word would stand without it."""
+    auction = Auction.read(example("scarce-grades"))
+    outcome, way = solve(auction), trail(auction)
+    assert isinstance(way, Trail)
+    svg = picture(auction, outcome, trail=way)
+    word = next(element for element in root_of(svg).iter(SVG + "text") if element.text == "nothing")
+    box = box_at((float(word.attrib["x"]), float(word.attrib["y"]) - FONT * 0.36), "nothing", FONT)
+    steps = [[float(end) for end in line.split()[1:]] for line in geometry(svg) if line.startswith("trail")]
+    assert len(steps) == 2 and not any(part_in(((x, y), (to_x, to_y)), box) for x, y, to_x, to_y in steps)
 
 
 def test_equal_bids_stand_beside_each_other() -> None:

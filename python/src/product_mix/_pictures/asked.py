@@ -5,7 +5,7 @@ from typing import Dict, Iterable, List, NamedTuple, Optional, Sequence, Tuple, 
 
 from .._answers import Trail
 from .._auction import Auction, Bid
-from .._errors import FormError
+from .._errors import FormError, counted
 from .._outcome import Amounts, Cleared, Outcome, Refused
 from .._shown import Shown
 from .._standing import standings
@@ -163,7 +163,7 @@ def _spans(span: Spans, goods: Tuple[str, ...]) -> Optional[Tuple[Range, ...]]:
     if len(ranges) == 1:
         ranges *= len(goods)
     if len(ranges) != len(goods):
-        raise FormError("there are %d ranges for %d axes of prices" % (len(ranges), len(goods)))
+        raise FormError("there are %d ranges for %s of prices" % (len(ranges), counted(len(goods), "axis", "axes")))
     for low, high in ranges:
         if not -MOST <= low < high <= MOST:
             raise FormError("a range goes from a price to a greater one, between -%d and %d" % (MOST, MOST))

@@ -3,6 +3,7 @@
 import math
 from typing import Dict, List, Optional, Sequence
 
+from .._errors import counted
 from .._outcome import Cleared, Refused
 from .._standing import FILLED
 from .asked import OPEN, Asked, Dot
@@ -94,10 +95,6 @@ def arrow(line: Line, colour: str) -> str:
     tip = ((x + to_x) / 2 + 8 * right, (y + to_y) / 2 + 8 * down)
     back = (tip[0] - 14 * right, tip[1] - 14 * down)
     return polygon([tip, (back[0] - 7 * down, back[1] + 7 * right), (back[0] + 7 * down, back[1] - 7 * right)], colour)
-
-
-def counted(count: int, one: str, many: str) -> str:
-    return "%d %s" % (count, one if count == 1 else many)
 
 
 def signed(amount: str) -> str:

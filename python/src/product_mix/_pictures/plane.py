@@ -3,6 +3,7 @@
 import math
 from typing import Callable, Dict, Iterator, List, Optional, Sequence, Tuple
 
+from .._errors import counted
 from .._outcome import Refused
 from .._standing import FILLED, PARTLY, UNFILLED
 from .asked import Asked, Dot
@@ -12,7 +13,7 @@ from .labels import Labels, along, around, spots_by_depth
 from .legend import Entry, legend, line_entry, words_entry
 from .marks import Mark, colours_of, cross, named_sign, opacity_of, radii, spread
 from .parts import (
-    PRICE_WIDTH, RESERVE_DASHES, TRAIL_COLOUR, TRAIL_WIDTH, arrow, beside, bid_entries, bidder_entries, counted, is_near,
+    PRICE_WIDTH, RESERVE_DASHES, TRAIL_COLOUR, TRAIL_WIDTH, arrow, beside, bid_entries, bidder_entries, is_near,
     mark_words, other_notes, sides, signed, told_of,
 )
 from .svg import (
@@ -35,6 +36,9 @@ FACET_WIDTH, THIN_WIDTH, MANY_FACETS = 2, 0.6, 60
 # Regions are found in so many columns and rows, fewer where there are many bids; so many of them are named at most.
 CELLS, FEW_CELLS, MANY_BIDS = 80, 40, 25
 MOST_REGIONS = 40
+# Where in a cell its prices are looked at, which is at no bid's value; and how much further the second one, since else a
+# diagonal of cells might stand where two goods are as good for a bid.
+MIDDLE, ASIDE = 0.4937, math.sqrt(0.0003)
 # So many lines have their weight written on them at most, the longest first.
 MOST_CHANGES = 80
 # So many bids are named at most, the heaviest first.
@@ -80,18 +84,19 @@ class _Plane:
         parts += [named_sign(mark, told_of(self.asked, mark.dot), self.colours[mark.dot.bidder], opacity)
                   for mark in sorted(marks, key=lambda mark: -mark.radius)]
         parts += self._cross()
-        self._write_labels(marks, facets, prices)
+        self._write_labels(marks, facets, prices, trail)
         entries, bottom = legend(self._entries(marks, facets, prices, trail), self._all_notes(marks), LEFT - 34, WIDTH - 14,
                                  self._under() + 74)
         title = self.asked.title or self._title()
         head = words((LEFT - 34, 26), title, 16, anchor="start", weight="bold")
         return document(WIDTH, bottom + 4, title, self._told(marks), [head, *parts, *self.labels.drawn, *entries])
 
-    def _write_labels(self, marks: Sequence[Mark], facets: Sequence[Tuple[Line, int]], prices: Sequence[Line]) -> None:
+    def _write_labels(self, marks: Sequence[Mark], facets: Sequence[Tuple[Line, int]], prices: Sequence[Line],
+                      trail: Sequence[Line]) -> None:
         """Labels in the order in which they matter: prices, regions, changes, and the bids, the heaviest first."""
         labels = self.labels
         labels.lines += [line for line, _ in facets]
-        labels.lines += prices
+        labels.lines += [*prices, *trail]
         labels.faint += [*self._reserve_lines(), *sides(self.frame.box)]
         labels.boxes += [Box(x - r, y - r, x + r, y + r) for (x, y), r, _ in marks]
         if self.mark is not None and self.frame.has(self.mark):
@@ -259,11 +264,12 @@ class _Plane:
             yield from [(called[bundle], spots) for bundle, spots in found]
 
     def _cells(self, bundle_at: Callable[[Sequence[float]], Optional[Bundle]]) -> List[Tuple[Bundle, List[Spot]]]:
-        """The regions of one bundle, the largest first, by looking at the middles of many cells."""
+        """The regions of one bundle, the largest first, by looking near the middles of many cells."""
         count = FEW_CELLS if len(self.units) > MANY_BIDS else CELLS
-        middles = [[axis.low + (axis.high - axis.low) * (at + 0.4937) / count for at in range(count)]
+        middles = [[axis.low + (axis.high - axis.low) * (at + MIDDLE) / count for at in range(count)]
                    for axis in (self.frame.across, self.frame.up)]
-        bundles = {(i, j): bundle_at((middles[0][i], middles[1][j])) for i in range(count) for j in range(count)}
+        aside = (self.frame.up.high - self.frame.up.low) * ASIDE / count
+        bundles = {(i, j): bundle_at((middles[0][i], middles[1][j] + aside)) for i in range(count) for j in range(count)}
         regions = []
         for cells in _connected(bundles):
             spots = [self.frame.spot((middles[0][i], middles[1][j])) for i, j in spots_by_depth(cells)]
@@ -290,8 +296,8 @@ class _Plane:
         if self.asked.prices is not None:
             told.append("The prices are %s and %s." % (amount(self.asked.prices[0]), amount(self.asked.prices[1])))
             kinds = [mark.dot.kind for mark in marks]
-            told.append("%d bids are filled, %d in part, %d not." % (
-                kinds.count(FILLED), kinds.count(PARTLY), kinds.count(UNFILLED)))
+            told.append("%s filled, %d in part, %d not." % (
+                counted(kinds.count(FILLED), "bid is", "bids are"), kinds.count(PARTLY), kinds.count(UNFILLED)))
         elif self.mark is not None:
             told.append(self._mark_words() + ".")
         return " ".join(told)

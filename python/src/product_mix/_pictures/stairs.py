@@ -2,6 +2,7 @@
 
 from typing import Dict, List, NamedTuple, Optional, Sequence, Tuple
 
+from .._errors import counted
 from .._outcome import Refused
 from .._standing import FILLED, PARTLY, UNFILLED
 from .asked import OPEN, Asked, Dot
@@ -11,7 +12,7 @@ from .labels import Labels, around
 from .legend import Entry, legend, line_entry
 from .marks import Mark, colours_of, cross, named_sign, opacity_of
 from .parts import (
-    PRICE_WIDTH, RESERVE_DASHES, TRAIL_COLOUR, TRAIL_WIDTH, arrow, beside, bid_entries, bidder_entries, counted, is_near,
+    PRICE_WIDTH, RESERVE_DASHES, TRAIL_COLOUR, TRAIL_WIDTH, arrow, beside, bid_entries, bidder_entries, is_near,
     mark_words, other_notes, sides, signed, told_of,
 )
 from .svg import (
