@@ -90,7 +90,7 @@ class Sentences:
                         for good, price in found.below.items()], "or")
         would = "would be if %s" % needs if found.below else "is at no price of one good alone, as the cap goes to others of its bids"
         if found.kind == PARTLY and len(found.best) > 1:
-            return "at the edge, as %s are as good for it, and filled in part at most; it wholly %s" % (best, would)
+            return "at the edge: %s are as good for it, so not all of it need be filled; all of it %s" % (best, would)
         return "%s; it %s%s" % (("filled in part, up to the cap", "wholly ", would) if found.kind == PARTLY else
                                 ("not filled", "", would))
 
