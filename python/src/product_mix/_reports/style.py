@@ -1,18 +1,19 @@
 """How the page looks: on narrow and wide screens, in light and dark, and on paper."""
 
-# The lines of the chart have colours that differ for those who see few, and dashes besides.
+# The lines of the chart have colours that differ for those who see few, and dashes besides. A wide box has a shade at each
+# edge behind which more of it is: its two covers of paper move with what is in it, and its two shades stay.
 STYLE = """
 :root {
   color-scheme: light dark;
   --paper: #ffffff; --ink: #1b1f24; --faint: #57606a; --rule: #c9d1d9; --shade: #f3f5f7; --link: #0550ae;
-  --good: #116329; --bad: #a40e26;
+  --good: #116329; --bad: #a40e26; --edge: rgba(27, 31, 36, 0.4);
   --line-1: #0b62a8; --line-2: #b04a00; --line-3: #1a7f4b; --line-4: #8a3fa0;
   --line-5: #7a5c00; --line-6: #b3205f; --line-7: #4a4f57; --line-8: #007a87;
 }
 @media screen and (prefers-color-scheme: dark) {
   :root {
     --paper: #14171c; --ink: #e4e8ec; --faint: #a3adb8; --rule: #3b444e; --shade: #1e232a; --link: #7cb7ff;
-    --good: #6fd08c; --bad: #ff8f9a;
+    --good: #6fd08c; --bad: #ff8f9a; --edge: rgba(228, 232, 236, 0.45);
     --line-1: #6cb6ff; --line-2: #ffab70; --line-3: #6fd08c; --line-4: #d6a2ff;
     --line-5: #e3c35b; --line-6: #ff9bc2; --line-7: #c0c8d0; --line-8: #5cd5e0;
   }
@@ -41,7 +42,16 @@ dl > div { background: var(--shade); padding: 0.5rem 0.75rem; border-radius: 0.3
 dt { color: var(--faint); font-size: 0.88rem; }
 dd { margin: 0; font-size: 1.2rem; font-variant-numeric: tabular-nums; }
 nav ul { list-style: none; padding: 0; display: flex; flex-wrap: wrap; gap: 0.25rem 1.25rem; }
-.wide { overflow-x: auto; margin: 0.75rem 0 1.25rem; max-width: 100%; }
+.wide, pre {
+  --cover: var(--paper); overflow-x: auto;
+  background:
+    linear-gradient(to right, var(--cover) 40%, transparent) left / 2.5rem 100% no-repeat local,
+    linear-gradient(to left, var(--cover) 40%, transparent) right / 2.5rem 100% no-repeat local,
+    linear-gradient(to right, var(--edge), transparent) left / 0.9rem 100% no-repeat scroll,
+    linear-gradient(to left, var(--edge), transparent) right / 0.9rem 100% no-repeat scroll,
+    var(--cover);
+}
+.wide { margin: 0.75rem 0 1.25rem; max-width: 100%; }
 table { border-collapse: collapse; font-variant-numeric: tabular-nums; overflow-wrap: normal; }
 caption { text-align: left; font-weight: 600; padding-bottom: 0.35rem; }
 th, td { padding: 0.3rem 0.75rem; text-align: left; vertical-align: top; border-bottom: 1px solid var(--rule); }
@@ -53,7 +63,12 @@ tfoot th, tfoot td { border-top: 2px solid var(--rule); border-bottom: 0; font-w
 td.number { white-space: nowrap; }
 td.words { min-width: 15rem; max-width: 32rem; }
 tr.met { background: var(--shade); }
-pre { background: var(--shade); padding: 0.6rem 0.75rem; margin: 0.4rem 0; overflow-x: auto; border-radius: 0.3rem; line-height: 1.35; }
+@media screen and (max-width: 30rem) {
+  table { font-size: 0.88rem; }
+  th, td { padding: 0.3rem 0.25rem; }
+  td.words { min-width: 11rem; }
+}
+pre { --cover: var(--shade); padding: 0.6rem 0.75rem; margin: 0.4rem 0; border-radius: 0.3rem; line-height: 1.35; }
 pre, code { font-family: ui-monospace, monospace; font-size: 0.88rem; }
 .text { max-height: 24rem; overflow: auto; }
 figure { margin: 1rem 0; max-width: 36rem; }
@@ -73,6 +88,7 @@ footer { margin-top: 2.5rem; border-top: 1px solid var(--rule); color: var(--fai
   dl { grid-template-columns: repeat(auto-fit, minmax(6rem, 1fr)); gap: 0; margin: 0.5rem 0; }
   dl > div { padding: 0.25rem 0.5rem 0.25rem 0; }
   dd { font-size: 12pt; }
+  .wide, pre { background: var(--cover); }
   .wide { margin: 0.5rem 0 0.75rem; }
   ol p { margin: 0.2rem 0; }
   figure { max-width: 13cm; }
