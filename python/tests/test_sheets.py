@@ -12,6 +12,7 @@ from hypothesis import given, settings
 from hypothesis import strategies as st
 
 from product_mix import Auction, Bid
+from product_mix.__main__ import main
 from product_mix._sheets.blocks import Columns, normal
 from product_mix._sheets.cells import read_sheets
 from product_mix._sheets.names import plain_names
@@ -138,11 +139,14 @@ HEAD = "good,supply,reserve\nA,5,1\nB,6,2\n\nbidder,quantity,A,B\n"
     ("Ada,1,1e3,", "bids.csv, row 6, column C (A): '1e3' is no number"),
     ("Ada,1,5%,", "bids.csv, row 6, column C (A): '5%' is no number"),
     ("Ada,1,4.5,", "bids.csv, row 6, column C (A): '4.5' is no multiple of the step 1"),
-    ("Ada,,4,", "bids.csv, row 6, column B (quantity): '' should be a number"),
+    ("Ada,,4,", "bids.csv, row 6, column B (quantity): is empty, and should be a number"),
     ("Ada,–,4,", "bids.csv, row 6, column B (quantity): '–' should be a number"),
     ("Ada,1.5,4,", "bids.csv, row 6, column B (quantity): '1.5' is no whole number"),
     ("Ada,€5,4,", "bids.csv, row 6, column B (quantity): '€5' has a currency, and should be a number of units"),
-    (",1,4,", "bids.csv, row 6, column A (bidder): '' should be the name of a bidder"),
+    (",1,4,", "bids.csv, row 6, column A (bidder): is empty, and should be the name of a bidder"),
+    ("Ada,2x,4,", "bids.csv, row 6, column B (quantity): '2x' is no number: write digits alone"),
+    ("Ada,1,4,\nbidder,cap\n,2", "bids.csv, row 8, column A (bidder): is empty, and should be the name of a bidder"),
+    ("Ada,1,4,\nbidder,cap\nAda,2,soon", "bids.csv, row 8, column C: 'soon' stands in a column without a title"),
     ("Ada,1,4,5,6", "bids.csv, row 6, column E: '6' stands in a column without a title"),
     ("Ada,1,,-", "bids.csv, row 6, column A (bidder): 'Ada' has the fault nothing. The bid offers no good. Give it a value, "
                  "or drop the row."),
@@ -170,13 +174,17 @@ def test_each_complaint(row: str, complaint: str) -> None:
 
 @pytest.mark.parametrize("text, complaint", [
     ("bidder,quantity,A\nAda,1,4\n", "bids.csv, row 1, column C (A): 'A' has no supply. It stands in a table with the titles "
-     "good and supply, or in a row of the bids that begins with supply; a column that is no good is left out by --goods, which "
-     "names the goods"),
+     "good and supply, or with others that --column names, or in a row of the bids that begins with supply; a column that is no "
+     "good is left out by --goods, which names the goods"),
     ("good,supply\nA,5\nC,5\nbidder,quantity,A\nAda,1,4\n",
-     "bids.csv, row 4: 'C' is a good, and no column of this row has it as title"),
-    ("good,supply\nA,5\n,5\nbidder,quantity,A\nAda,1,4\n", "bids.csv, row 3, column A (good): '' should be the name of a good"),
-    ("good,supply\nA,x\nbidder,quantity,A\nAda,1,4\n", "bids.csv, row 2, column B (supply): 'x' is no number"),
-    ("good,supply,reserve\nA,5,\nbidder,quantity,A\nAda,1,4\n", "bids.csv, row 2, column C (reserve): '' should be a number"),
+     "bids.csv, row 3, column A (good): 'C' is a good, and no title of the bids, in row 4 of bids.csv, is spelled so"),
+    ("bidder,quantity,A\nsupply,,5\nAda,1,4\nbidder,quantity,A,B\nsupply,,5,3\nBo,1,4,2\n",
+     "bids.csv, row 4, column D (B): 'B' is a good, and no title of the bids, in row 1 of bids.csv, is spelled so"),
+    ("bidder,quantity\nAda,1\n", "bids.csv, row 1, column B (quantity): 'quantity' stands in a row of titles that has no "
+     "good: each good is the title of a column"),
+    ("good,supply\nA,5\n,5\nbidder,quantity,A\nAda,1,4\n", "bids.csv, row 3, column A (good): is empty, and should be the name of a good"),
+    ("good,supply\nA,x\nbidder,quantity,A\nAda,1,4\n", "bids.csv, row 2, column B (supply): 'x' is no number: write digits alone"),
+    ("good,supply,reserve\nA,5,\nbidder,quantity,A\nAda,1,4\n", "bids.csv, row 2, column C (reserve): is empty, and should be a number"),
     ("good,supply\nA,5\nbidder,quantity,A,cap\nAda,1,4,2\n",
      "bids.csv, row 3, column D (cap): 'cap' should stand in a table of its own, with the titles bidder and cap"),
     ("bidder,quantity,A,a\nsupply,,1,1\nAda,1,4,2\n",
@@ -196,12 +204,68 @@ def test_all_complaints_at_once() -> None:
     assert [line.split(": ")[0].split("row ")[1] for line in told[:-1]] == [
         "6, column C (A)", "6, column D (B)", "7, column A (bidder)", "7, column B (quantity)", "7, column C (A)",
         "8, column B (quantity)"]
-    assert told[-1] == "With --step 0.1 these amounts would be multiples of the step."
+    assert told[-1] == "With --step 0.1 all amounts that can be read would be multiples of the step."
+
+
+@pytest.mark.parametrize("step, values, wanted", [
+    ("1", ["40.5", "30.25"], "0.01"), ("0.1", ["40.5", "30.25"], "0.01"), ("5", ["40", "32"], "1"),
+])
+def test_the_step_that_is_advised_does(step: str, values: List[str], wanted: str) -> None:
+    """Also for the amounts that the stated step did for."""
+    text = HEAD + "".join(["Ada,1,%s,\n" % value for value in values])
+    assert complaints(text, Manner(Decimal(step)))[-1] == "With --step %s all amounts would be multiples of the step." % wanted
+    assert understood(text, Manner(Decimal(wanted))).doubts == []
+
+
+def test_a_small_step_is_advised_in_digits() -> None:
+    assert complaints(HEAD + "Ada,1,0.00000001,\n")[-1].startswith("With --step 0.00000001 all")
+
+
+def test_the_other_faults_are_told_where_a_supply_or_a_column_is_missing() -> None:
+    told = complaints("bidder,quantity,A,B\nAda,0,4,5\nBo,1,-,\n")
+    assert [line.split(": ")[0].split("row ")[1] for line in told] == [
+        "1, column C (A)", "1, column D (B)", "2, column B (quantity)", "3, column A (bidder)"]
+    told = complaints("good,supply\nA,5\nC,5\nbidder,quantity,A,B\nAda,0,4,\nBo,1,,5\n")
+    assert [line.split(": ")[0].split("row ")[1] for line in told[:2]] == ["3, column A (good)", "5, column B (quantity)"]
+    # What Bo offers for C isn't known, so it isn't said to offer nothing.
+    assert told[2:] == ["Passed over: column D (B).",
+                        "warning: column D (B) has amounts and is no good: the table of goods has no row for it"]
+
+
+def test_a_good_without_a_row_is_told() -> None:
+    """Its column is passed over, and hardly meant to be."""
+    text = "good,supply\nA,5\nbidder,quantity,A,B,Note\nAda,1,4,3,soon\nBo,1,%s,2,\n"
+    doubt = "column D (B) has amounts and is no good: the table of goods has no row for it"
+    found = understood(text % "4")
+    assert found.lines[0].endswith("passed over: column D (B), column E (Note)") and found.doubts == [doubt]
+    assert complaints(text % "4o") == [
+        "bids.csv, row 5, column C (A): '4o' is no number", "Passed over: column D (B), column E (Note).", "warning: " + doubt]
+    assert understood(text % "4", Manner(columns=Columns(goods=["A"]))).doubts == []
+
+
+def test_columns_beside_a_table_of_goods() -> None:
+    assert complaints("good,supply\nA,5,soon\nbidder,quantity,A\nAda,1,4\n") == [
+        "bids.csv, row 2, column C: 'soon' stands in a column without a title"]
+    found = understood("good,supply,Limit (€),Place\nA,5,3,hall\nbidder,quantity,A\nAda,1,4\nbidder,cap,Phone\nAda,1,12\n")
+    assert found.lines[0].endswith("passed over: column C (Limit (€)) of the table of goods, column D (Place) of the table of goods, "
+                                   "column C (Phone) of the table of bidders")
+    assert found.doubts == ["column C (Limit (€)) of the table of goods has amounts and is passed over: "
+                            "--column 'reserve=Limit (€)' reads it, if they are reserves"]
+
+
+def test_goods_that_are_not_named_are_left_out() -> None:
+    text = "good,supply\nA,5\nB,3\nbidder,quantity,A,B\nAda,1,4,5\n"
+    found = understood(text, Manner(columns=Columns(goods=["a"])))
+    assert found.auction == Auction(["A"], [5], [0], [Bid("Ada", [4])])
+    assert found.lines[0].endswith("passed over: the good B in row 3 of bids.csv, column D (B)")
+    assert complaints(text, Manner(columns=Columns(goods=["A", "C"])))[0] == (
+        "bids.csv, row 4: 'C' is a good by --goods, and no title of this row is spelled so")
 
 
 @pytest.mark.parametrize("text, message", [
     ("Ann,1,40\n", "no row has the titles of a table of bids: bidder (bidder or bidders or name"),
     ("", "no row has the titles of a table of bids"),
+    ("Kunde,Kisten,A\nAnn,1,40\n", "Other titles are named: --column bidder=Customer --column quantity=Boxes, and so for good"),
     ('bidder,quantity,A\n"Ann,1,40\n', "a quote that is opened has to be closed"),
 ])
 def test_no_sheet(text: str, message: str) -> None:
@@ -226,12 +290,15 @@ def test_other_files() -> None:
     ("1 234", None, "1234"), ("1\u202f234\u00a0567", None, "1234567"), ("€12", None, "12"), ("12 €", None, "12"),
     ("EUR 12", None, "12"), ("-12", None, "-12"), ("−12", None, "-12"), ("–12", None, "-12"), ("-€12", None, "-12"),
     ("€-12", None, "-12"), ("+12", None, "12"), ("007", None, "7"), ("Fr. 1’500", None, "1500"),
+    ("16,50 Euro", ",", "16.5"), ("16 zł", None, "16"), ("Kč 16", None, "16"), ("16,-", ",", "16"), ("16,--", ",", "16"),
+    ("16.– €", ".", "16"), ("Fr. 1'500.—", ".", "1500"), ("-1.500,- euro", ",", "-1500"),
 ])
 def test_numbers(content: str, decimal: Optional[str], number: str) -> None:
     assert number_of(content, decimal) == Decimal(number)
 
 
-@pytest.mark.parametrize("content", ["", "x", "1 2", "1.2.3", "12.", ".5", "1,23,456", "--5", "€5€", "1e5", "٣", "5 kg", "(5)"])
+@pytest.mark.parametrize("content", ["", "x", "1 2", "1.2.3", "12.", ".5", "1,23,456", "--5", "€5€", "1e5", "٣", "5 kg", "(5)",
+                                     "16,---", "16-", "16,-5", ",-", "16 Euros", "Euro 16 zł"])
 def test_no_numbers(content: str) -> None:
     with pytest.raises(ValueError):
         number_of(content, ".")
@@ -245,6 +312,13 @@ def test_amounts_come_back(steps: int, step: str, decimal: str, has_groups: bool
     if decimal == ",":
         written = written.translate({ord(","): ".", ord("."): ","})
     assert steps_of(written, decimal, Decimal(step)) == steps
+
+
+def test_one_currency_of_several_spellings() -> None:
+    found = understood(HEAD + 'Ada,1,"16,- €","17,50 Euro"\nBo,1,EUR 3,\n', Manner(Decimal("0.01")))
+    assert list(found.auction.bids) == [Bid("Ada", [1600, 1750]), Bid("Bo", [300, None])] and found.shown.currency == "€"
+    assert found.lines[3] == "amounts: in steps of 0.01 €; decimal comma, as 16,- € in C6 shows"
+    assert complaints(HEAD + "Ada,1,16 €,17 zł\n")[0].endswith("'17 zł' has another currency than 16 € in C6")
 
 
 def test_empty_cells() -> None:
@@ -342,6 +416,36 @@ def test_the_names_beside_a_text(tmp_path: Path, run: Run) -> None:
     assert run("sheet", text)[1].splitlines()[2] == "Außen,2,6.00"
 
 
+def test_csv_for_a_spreadsheet(tmp_path: Path, run: Run) -> None:
+    """Decimal commas in amounts alone: names keep their points."""
+    sheet, text = tmp_path / "bids.csv", tmp_path / "auction.csv"
+    sheet.write_text("good,supply,reserve\nNo. 1,2,1.50\nbidder,quantity,No. 1\nA. B.,1,4.00\n", encoding="utf-8")
+    assert run("sheet", sheet, "--step", "0.01", "--out", text)[0] == 0
+    titles, row = ["bidder", "good", "quantity", "price", "payment"], ["A. B.", "No. 1", "1", "1,50", "1,50"]
+    for sign, separator in ((";", ";"), ("tab", "\t"), (",", ",")):
+        out = run("solve", text, "--csv", "--decimal", ",", "--separator", sign)[1]
+        assert list(csv.reader(io.StringIO(out), delimiter=separator)) == [titles, row]
+    assert run("solve", text, "--csv")[1].splitlines()[1] == "A. B.,No. 1,1,1.50,1.50"
+    for form in ([], ["--json"], ["--text"]):
+        assert run("solve", text, "--decimal", ",", *form)[::2] == (
+            3, "--decimal and --separator say how --csv is written, and it isn't asked for\n")
+
+
+def test_warnings_of_what_is_passed_over(tmp_path: Path, run: Run) -> None:
+    sheet = tmp_path / "bids.csv"
+    sheet.write_text("good,supply\nA,5\nbidder,quantity,A,B\nAda,1,4,3\n", encoding="utf-8")
+    for words in (["sheet"], ["report"]):
+        told = run(*words, sheet)[2].splitlines()
+        assert told[5:] == ["warning: column D (B) has amounts and is no good: the table of goods has no row for it"]
+
+
+def test_help_names_the_marks(capsys: pytest.CaptureFixture[str]) -> None:
+    with pytest.raises(SystemExit):
+        main(["sheet", "--help"])
+    told = capsys.readouterr().out
+    assert "--decimal MARK" in told and "--separator SIGN" in told
+
+
 def test_the_text_alone(tmp_path: Path, run: Run) -> None:
     sheet = tmp_path / "bids.csv"
     sheet.write_text(HALL, encoding="utf-8")
@@ -359,6 +463,7 @@ def test_doubts(tmp_path: Path, run: Run) -> None:
 
 @pytest.mark.parametrize("words, told", [
     (["--step", "0"], "has to be above 0"), (["--step", "x"], "'x' is no step"), (["--step", "nan"], "has to be above 0"),
+    (["--step", "0,25"], "'0,25' is no step: it is written with a point, as 0.25"),
     (["--column", "bidder"], "--column wants WHAT=TITLE"), (["--column", "who=x"], "--column wants WHAT=TITLE"),
 ])
 def test_options(words: List[str], told: str, tmp_path: Path, run: Run) -> None:

@@ -7,6 +7,7 @@ amounts that are multiples of a step, as 0.01: both stand in a file of names bes
 import csv
 import io
 import os
+import re
 from dataclasses import dataclass, field
 from decimal import Decimal, InvalidOperation
 from pathlib import Path
@@ -106,7 +107,9 @@ def step_of(content: str) -> Decimal:
     try:
         step = Decimal(content)
     except InvalidOperation:
-        raise FormError("%r is no step" % content) from None
+        point = content.replace(",", ".")
+        advice = ": it is written with a point, as %s" % point if re.fullmatch(r"[0-9]+\.[0-9]+", point) else ""
+        raise FormError("%r is no step%s" % (content, advice)) from None
     if not step.is_finite() or step <= 0:
         raise FormError("the step is %s, and has to be above 0" % content)
     return step

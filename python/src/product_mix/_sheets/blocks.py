@@ -100,7 +100,8 @@ def _keys_of(row: Sequence[Content], columns: Columns) -> Dict[str, int]:
     return keys
 
 
-_WANTED = {BIDS: ("bidder", "quantity"), GOODS: ("good", "supply", "reserve"), BIDDERS: ("bidder", "cap", "order")}
+# What is read in a block of each kind.
+WANTED = {BIDS: ("bidder", "quantity"), GOODS: ("good", "supply", "reserve"), BIDDERS: ("bidder", "cap", "order")}
 
 
 def _twice(block: Block, columns: Columns) -> List[Complaint]:
@@ -109,7 +110,7 @@ def _twice(block: Block, columns: Columns) -> List[Complaint]:
     complaints = []
     for column, content in enumerate(block.titles):
         key = columns.key_of(content)
-        name = key if key in _WANTED[block.kind] else normal(content)
+        name = key if key in WANTED[block.kind] else normal(content)
         if name in seen:
             complaints.append(Complaint(block.place(block.row, column), content, "is the title of column %s too, as a %s"
                                         % (block.place(block.row, seen[name]).cell, key or "good")))

@@ -14,8 +14,12 @@ DASHES = "-\u2010\u2011\u2012\u2013\u2014\u2015\u2212\ufe58\ufe63\uff0d"
 _MINUS = "-\u2212\u2013"
 # Between thousands these mean nothing else; a point or a comma may.
 _PLAIN_GROUPS = re.compile(r"\d{1,3}(?:['\u2019 \u00a0\u2009\u202f]\d{3})+(?!\d)")
-_CURRENCY = r"(?:[A-Z]{3}|Fr\.|kr\.?|[^\w\s.,'\u2019+%s-])" % _MINUS[1:]
+_CURRENCY = r"(?:[A-Z]{3}|Fr\.|kr\.?|[Ee]uro|EURO|zł|Kč|[^\w\s.,'\u2019+%s-])" % _MINUS[1:]
+# Signs and words of a currency that has one code alone.
+_CODES = {"€": "EUR", "euro": "EUR", "zł": "PLN", "kč": "CZK"}
 _AMOUNT = re.compile(r"([+%s]?)\s*(%s)?\s*([+%s]?)\s*(\d[\d.,]*)\s*(%s)?" % (_MINUS[1:] + "-", _CURRENCY, _MINUS[1:] + "-", _CURRENCY))
+# Dashes in the place of cents: there are none.
+_NO_CENTS = re.compile(r"(?<=\d)([.,])[%s]{1,2}(?!\d)" % (_MINUS[1:] + "\u2014-"))
 
 _BOTH = re.compile(r"\d{1,3}(?:([.,])\d{3})+(?!\1)([.,])\d+")
 _MANY = re.compile(r"\d{1,3}(?:([.,])\d{3}){2,}")
@@ -46,6 +50,7 @@ class Spelled(NamedTuple):
 def spelled(content: str) -> Optional[Spelled]:
     """The parts of a number; None where there is something else."""
     plain = _PLAIN_GROUPS.sub(lambda group: re.sub(r"\D", "", group[0]), content.strip())
+    plain = _NO_CENTS.sub(r"\g<1>00", plain)
     found = _AMOUNT.fullmatch(plain)
     if found is None or (found[1] and found[3]) or (found[2] and found[5]):
         return None
@@ -53,6 +58,11 @@ def spelled(content: str) -> Optional[Spelled]:
     if len(currency) == 1 and unicodedata.category(currency) != "Sc":
         return None
     return Spelled((found[1] or found[3] or "+") in _MINUS, found[4], currency)
+
+
+def is_number(content: Content) -> bool:
+    """Whether a cell has a number in it, whatever its marks say."""
+    return isinstance(content, Decimal) or spelled(content) is not None
 
 
 def told_mark(digits: str) -> Optional[str]:
@@ -95,10 +105,15 @@ def marks_of(cells: Iterable[Marked], stated: Optional[str]) -> Tuple[Marks, Lis
                 NAMES[mark], marks.decimal_cell.content, marks.decimal_cell.place.cell, NAMES[marks.decimal or ""])))
         if found.currency and not marks.currency:
             marks = marks._replace(currency=found.currency, currency_cell=cell)
-        elif found.currency and found.currency != marks.currency and marks.currency_cell is not None:
+        elif found.currency and _code(found.currency) != _code(marks.currency) and marks.currency_cell is not None:
             complaints.append(Complaint(cell.place, cell.content, "has another currency than %s in %s" % (
                 marks.currency_cell.content, marks.currency_cell.place.cell)))
     return marks, complaints
+
+
+def _code(currency: str) -> str:
+    """What is the same for all spellings of a currency."""
+    return _CODES.get(currency.casefold(), currency)
 
 
 def number_of(content: Content, decimal: Optional[str]) -> Decimal:
@@ -137,7 +152,9 @@ def units_of(content: Content, decimal: Optional[str]) -> int:
     """The number of units that stands in a cell."""
     if isinstance(content, str):
         found = spelled(content)
-        if found is not None and found.currency:
+        if found is None:
+            raise FormError("is no number: write digits alone")
+        if found.currency:
             raise FormError("has a currency, and should be a number of units")
     number = number_of(content, decimal)
     if number != int(number):

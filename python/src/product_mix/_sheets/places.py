@@ -1,6 +1,6 @@
 """Where something stands in a sheet, and what is wrong there."""
 
-from typing import List, NamedTuple, Optional
+from typing import List, NamedTuple, Optional, Sequence
 
 from .._errors import FormError, shortened
 from .cells import Content
@@ -55,13 +55,14 @@ class Complaint(NamedTuple):
     message: str
 
     def __str__(self) -> str:
-        return "%s: %r %s" % (self.place, shortened(str(self.content)), self.message)
+        content = str(self.content).strip()
+        return "%s: %s %s" % (self.place, repr(shortened(str(self.content))) if content else "is empty, and", self.message)
 
 
 class SheetError(FormError):
-    """A sheet that says no auction: all complaints, in order."""
+    """A sheet that says no auction: all complaints, in order, and then what may help."""
 
-    def __init__(self, complaints: List[Complaint], advice: str = "") -> None:
+    def __init__(self, complaints: List[Complaint], advice: Sequence[str] = ()) -> None:
         ordered = sorted(complaints, key=lambda it: (it.place.sheet, it.place.row, it.place.column or 0))
-        super().__init__("\n".join([*map(str, ordered), *([advice] if advice else [])]))
+        super().__init__("\n".join([*map(str, ordered), *advice]))
         self.complaints = ordered

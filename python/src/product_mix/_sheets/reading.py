@@ -2,17 +2,17 @@
 
 from dataclasses import dataclass, field
 from decimal import Decimal
-from typing import Callable, Dict, List, NamedTuple, Optional, Sequence, Tuple
+from typing import Callable, Dict, List, Mapping, NamedTuple, Optional, Sequence, Tuple
 
 from .._auction import Auction, Bid
 from .._errors import Fault, FormError, TextError
 from .._faults import faults
 from .._shown import Shown
 from .._solver import Solver
-from .blocks import BIDDERS, BIDS, GOODS, TITLES, Block, Columns, blocks_of, normal
+from .blocks import BIDDERS, BIDS, GOODS, TITLES, WANTED, Block, Columns, blocks_of, normal
 from .cells import Content, Sheet
 from .names import plain_names
-from .numbers import NAMES, Marks, is_blank, is_empty, marks_of, number_of, steps_of, units_of
+from .numbers import NAMES, Marks, is_blank, is_empty, is_number, marks_of, number_of, steps_of, units_of
 from .places import Complaint, Marked, Place, SheetError, letters
 
 # How many names or bids a line of what was understood shows.
@@ -49,6 +49,7 @@ class Found:
     caps: List[Tuple[Marked, Marked]] = field(default_factory=list)
     order: List[Tuple[Marked, Marked]] = field(default_factory=list)
     unread: List[str] = field(default_factory=list)
+    doubts: List[str] = field(default_factory=list)
     complaints: List[Complaint] = field(default_factory=list)
 
     def complain(self, cell: Marked, message: str) -> None:
@@ -56,19 +57,14 @@ class Found:
         if all(complaint.place != cell.place or complaint.content != cell.content for complaint in self.complaints):
             self.complaints.append(Complaint(cell.place, cell.content, message))
 
-    @property
-    def is_square(self) -> bool:
-        """Whether each good has a supply, and a column in each table of bids."""
-        return bool(self.goods) and set(self.goods) == set(self.supply) and all(
-            len(bid.values) == len(self.goods) for bid in self.bids)
-
 
 class Understood(NamedTuple):
-    """An auction that sheets say, how it is shown, and what was understood."""
+    """An auction that sheets say, how it is shown, what was understood, and what is hardly meant to be passed over."""
 
     auction: Auction
     shown: Shown
     lines: List[str]
+    doubts: List[str]
 
 
 def read_auction(sheets: Sequence[Sheet], manner: Manner, solver: Solver) -> Understood:
@@ -81,11 +77,17 @@ def read_auction(sheets: Sequence[Sheet], manner: Manner, solver: Solver) -> Und
     reading = _Reading(found, marks, manner)
     auction, shown = reading.auction(), reading.shown()
     advice = reading.advice()
-    if found.is_square:
+    if found.goods:
         _ask(found, auction, solver)
     if found.complaints:
-        raise SheetError(found.complaints, advice)
-    return Understood(auction, shown, _lines(sheets, found, marks, manner, auction, shown))
+        raise SheetError(found.complaints, [*advice, *_over(found)])
+    return Understood(auction, shown, _lines(sheets, found, marks, manner, auction, shown), found.doubts)
+
+
+def _over(found: Found) -> List[str]:
+    """What is told of cells that were passed over where the sheet is refused."""
+    over = ["Passed over: %s." % _some(found.unread)] if found.unread else []
+    return over + ["warning: " + doubt for doubt in found.doubts]
 
 
 def _number_cells(bid: BidRow) -> List[Marked]:
@@ -109,13 +111,52 @@ def _find(sheets: Sequence[Sheet], manner: Manner) -> Found:
         _READERS[block.kind](found, block)
     bids = [block for block in blocks if block.kind == BIDS]
     if not bids:
-        raise FormError("%s: no row has the titles of a table of bids: %s" % (", ".join(sheet.name for sheet in sheets), " and ".join(
-            "%s (%s)" % (key, manner.columns.named.get(key) or " or ".join(TITLES[key])) for key in ("bidder", "quantity"))))
+        raise FormError(_no_bids(sheets, manner.columns))
+    _leave_out(found, manner.columns)
     has_goods = bool(found.goods) or manner.columns.goods is not None
-    for block in bids:
-        _find_bids(found, block, manner.columns, has_goods)
-    _look_at_goods(found, bids[0])
+    goods_of = [_find_bids(found, block, manner.columns, has_goods) for block in bids]
+    for block, goods in zip(bids, goods_of):
+        _look_at_columns(found, block, goods, manner.columns)
+    _look_at_goods(found)
     return found
+
+
+def _no_bids(sheets: Sequence[Sheet], columns: Columns) -> str:
+    titles = ["%s (%s)" % (key, columns.named.get(key) or " or ".join(TITLES[key])) for key in ("bidder", "quantity")]
+    return ("%s: no row has the titles of a table of bids: %s. Other titles are named: --column bidder=Customer --column "
+            "quantity=Boxes, and so for good, supply and reserve" % (", ".join(sheet.name for sheet in sheets), " and ".join(titles)))
+
+
+def _leave_out(found: Found, columns: Columns) -> None:
+    """Leaves out the goods of a table that --goods doesn't name."""
+    if columns.goods is None:
+        return
+    named = set(map(normal, columns.goods))
+    for name in [good for good in found.goods if normal(good) not in named]:
+        place = found.goods[name].place
+        found.unread.append("the good %s in row %d of %s" % (name, place.row, place.sheet))
+        for cells in (found.goods, found.supply, found.reserve):
+            cells.pop(name, None)
+
+
+def _look_over(found: Found, block: Block) -> None:
+    """Takes note of the columns of a table of goods or of bidders that aren't read."""
+    read = [block.keys.get(key) for key in WANTED[block.kind]]
+    for column, title in enumerate(block.titles):
+        if column in read or is_blank(title):
+            continue
+        over = "column %s (%s) of the table of %s" % (letters(column), _name(title), block.kind)
+        found.unread.append(over)
+        if block.kind == GOODS and "reserve" not in block.keys and _has_amounts(block, column):
+            found.doubts.append("%s has amounts and is passed over: --column 'reserve=%s' reads it, if they are reserves"
+                                % (over, _name(title)))
+    for row, cells in block.rows:
+        _look_beside(found, block, row, cells)
+
+
+def _has_amounts(block: Block, column: int) -> bool:
+    """Whether a number stands in some row of a column."""
+    return any(is_number(block.at(row, cells, column).content) for row, cells in block.rows)
 
 
 def _find_goods(found: Found, block: Block) -> None:
@@ -132,6 +173,7 @@ def _find_goods(found: Found, block: Block) -> None:
             found.supply[name] = block.at(row, cells, block.keys["supply"])
             if "reserve" in block.keys:
                 found.reserve[name] = block.at(row, cells, block.keys["reserve"])
+    _look_over(found, block)
 
 
 def _find_bidders(found: Found, block: Block) -> None:
@@ -142,14 +184,15 @@ def _find_bidders(found: Found, block: Block) -> None:
             amount = block.at(row, cells, block.keys[key]) if key in block.keys else None
             if amount is not None and not is_empty(amount.content):
                 list_of.append((bidder, amount))
+    _look_over(found, block)
 
 
 _READERS: Dict[str, Callable[[Found, Block], None]] = {
     GOODS: _find_goods, BIDDERS: _find_bidders, BIDS: lambda found, block: None}
 
 
-def _find_bids(found: Found, block: Block, columns: Columns, has_goods: bool) -> None:
-    """The rows of a table of bids, and among them those of supplies and reserves."""
+def _find_bids(found: Found, block: Block, columns: Columns, has_goods: bool) -> Dict[str, int]:
+    """The rows of a table of bids, and among them those of supplies and reserves; in which columns its goods are."""
     goods = _goods_columns(found, block, columns, has_goods)
     for row, cells in block.rows:
         bidder, quantity = block.at(row, cells, block.keys["bidder"]), block.at(row, cells, block.keys["quantity"])
@@ -160,11 +203,12 @@ def _find_bids(found: Found, block: Block, columns: Columns, has_goods: bool) ->
         else:
             found.bids.append(BidRow(bidder, quantity, values))
         _look_beside(found, block, row, cells)
+    return goods
 
 
 def _goods_columns(found: Found, block: Block, columns: Columns, has_goods: bool) -> Dict[str, int]:
     """The columns of goods by their names: those that are named, or else those that the table of goods has, or all."""
-    wanted = {normal(good): good for good in (columns.goods if columns.goods is not None else found.goods)}
+    wanted = {normal(good): good for good in [*(columns.goods or []), *found.goods]}
     chosen: Dict[str, int] = {}
     for column, title in enumerate(block.titles):
         key, name = columns.key_of(title), _name(title)
@@ -176,14 +220,34 @@ def _goods_columns(found: Found, block: Block, columns: Columns, has_goods: bool
             found.complain(Marked(block.place(block.row, column), title), "should stand in a table of its own, with the titles "
                            "bidder and %s" % key)
         elif has_goods:
-            found.unread.append("column %s (%s)" % (letters(column), name))
+            _pass_over(found, block, column, columns)
         else:
             chosen[name] = column
     for name, column in chosen.items():
         found.goods.setdefault(name, Marked(block.place(block.row, column), name))
-    for name in [good for good in wanted.values() if good not in chosen]:
-        found.complain(Marked(Place(block.sheet, block.row + 1), name), "is a good, and no column of this row has it as title")
     return chosen
+
+
+def _pass_over(found: Found, block: Block, column: int, columns: Columns) -> None:
+    """Takes note of a column of the bids that is no good. Where --goods names the goods it is meant to be none."""
+    over = "column %s (%s)" % (letters(column), _name(block.titles[column]))
+    found.unread.append(over)
+    if columns.goods is None and _has_amounts(block, column):
+        found.doubts.append("%s has amounts and is no good: the table of goods has no row for it" % over)
+
+
+def _look_at_columns(found: Found, block: Block, goods: Mapping[str, int], columns: Columns) -> None:
+    """Complains of goods that have no column in a table of bids, and of a table that has none at all."""
+    titles = Place(block.sheet, block.row + 1)
+    for name in [name for name in found.goods if name not in goods]:
+        found.complain(found.goods[name], "is a good, and no title of the bids, in row %d of %s, is spelled so"
+                       % (titles.row, titles.sheet))
+    known = set(map(normal, found.goods))
+    for name in [name for name in columns.goods or [] if normal(name) not in known]:
+        found.complain(Marked(titles, name), "is a good by --goods, and no title of this row is spelled so")
+    if not found.goods and not columns.goods:
+        last = block.place(block.row, block.keys["quantity"])
+        found.complain(Marked(last, last.title), "stands in a row of titles that has no good: each good is the title of a column")
 
 
 def _look_beside(found: Found, block: Block, row: int, cells: Sequence[Content]) -> None:
@@ -194,12 +258,12 @@ def _look_beside(found: Found, block: Block, row: int, cells: Sequence[Content])
             found.complain(block.at(row, cells, column), "stands in a column without a title")
 
 
-def _look_at_goods(found: Found, bids: Block) -> None:
+def _look_at_goods(found: Found) -> None:
     """Complains of goods without a supply, and of reserves for some goods alone."""
     for good, cell in found.goods.items():
         if good not in found.supply:
-            found.complain(cell, "has no supply. It stands in a table with the titles good and supply, or in a row of the bids "
-                           "that begins with supply; a column that is no good is left out by --goods, which names the goods")
+            found.complain(cell, "has no supply. It stands in a table with the titles good and supply, or with others that "
+                           "--column names, or in a row of the bids that begins with supply; a column that is no good is left out by --goods, which names the goods")
         elif found.reserve and good not in found.reserve:
             found.complain(cell, "has no reserve, and other goods have one")
 
@@ -231,21 +295,28 @@ class _Reading:
                      {plain: name for name, plain in self.bidders.items() if plain != name},
                      self.manner.step, self.marks.currency)
 
-    def advice(self) -> str:
-        """Which step would do, where the one that is stated doesn't."""
+    def advice(self) -> List[str]:
+        """Which step would do for all amounts, where the one that is stated doesn't."""
         if not any("no multiple of the step" in complaint.message for complaint in self.found.complaints):
-            return ""
-        places = max(_places_of(complaint.content, self.marks.decimal) for complaint in self.found.complaints
-                     if "no multiple of the step" in complaint.message)
-        return "With --step %s these amounts would be multiples of the step." % (Decimal(1).scaleb(-places) if places else 1)
+            return []
+        amounts = [*self.found.reserve.values(), *[cell for bid in self.found.bids for cell in bid.values.values()]]
+        numbers = [_number(cell.content, self.marks.decimal) for cell in amounts if not is_empty(cell.content)]
+        places = max([_places_of(number) for number in numbers if number is not None])
+        step, read = Decimal(1).scaleb(-places), " that can be read" if None in numbers else ""
+        return ["With --step %s all amounts%s would be multiples of the step." % (format(step, "f"), read)]
 
     def _bid(self, row: BidRow) -> Bid:
         name = _name(row.bidder.content)
         if not name:
             self.found.complain(row.bidder, "should be the name of a bidder")
-        values = [None if is_empty(cell.content) else self._steps(cell)
-                  for cell in [row.values[good] for good in self.found.goods if good in row.values]]
+        values = [self._value(row.values.get(good)) for good in self.found.goods]
         return Bid(self.bidders.get(name, NOBODY), values, self._units(row.quantity, unread=1))
+
+    def _value(self, cell: Optional[Marked]) -> Optional[int]:
+        """The value of a good for a bid; 0 where its table has no column of the good, which is complained of."""
+        if cell is None:
+            return 0
+        return None if is_empty(cell.content) else self._steps(cell)
 
     def _caps(self) -> Dict[str, int]:
         caps: Dict[str, int] = {}
@@ -276,7 +347,9 @@ class _Reading:
 
     def _known(self, bidder: Marked) -> str:
         name = _name(bidder.content)
-        if name not in self.bidders:
+        if not name:
+            self.found.complain(bidder, "should be the name of a bidder")
+        elif name not in self.bidders:
             self.found.complain(bidder, "is the name of nobody who bids")
         return self.bidders.get(name, NOBODY)
 
@@ -296,9 +369,17 @@ class _Reading:
             return unread
 
 
-def _places_of(content: Content, decimal: Optional[str]) -> int:
+def _number(content: Content, decimal: Optional[str]) -> Optional[Decimal]:
+    """The number that stands in a cell; None where it can't be read."""
+    try:
+        return number_of(content, decimal)
+    except FormError:
+        return None
+
+
+def _places_of(number: Decimal) -> int:
     """How many decimal places a number has."""
-    exponent = number_of(content, decimal).normalize().as_tuple().exponent
+    exponent = number.normalize().as_tuple().exponent
     return max(0, -exponent) if isinstance(exponent, int) else 0
 
 
@@ -321,8 +402,10 @@ def _cells_of_rows(found: Found) -> List[List[Marked]]:
     """
     goods = list(found.goods.values())
     reserves = [found.reserve.get(good, cell) for good, cell in found.goods.items()]
-    head: List[List[Marked]] = [[], goods[:1] + goods, goods[:1] + [found.supply[good] for good in found.goods], goods[:1] + reserves]
-    bids = [[bid.bidder, bid.bidder, bid.quantity, *[bid.values[good] for good in found.goods]] for bid in found.bids]
+    supplies = [found.supply.get(good, cell) for good, cell in found.goods.items()]
+    head: List[List[Marked]] = [[], goods[:1] + goods, goods[:1] + supplies, goods[:1] + reserves]
+    bids = [[bid.bidder, bid.bidder, bid.quantity, *[bid.values.get(good, cell) for good, cell in found.goods.items()]]
+            for bid in found.bids]
     return [*head, *bids, *[[bidder, bidder, cap] for bidder, cap in found.caps]]
 
 

@@ -7,6 +7,8 @@ import sys
 import unicodedata
 from typing import Any, List, NamedTuple, Optional, Sequence, Union
 
+from .._sheets.cells import SEPARATORS
+
 #: What stands in a cell of a table: a text, a number, or nothing.
 Cell = Union[str, int, None]
 
@@ -45,10 +47,21 @@ def add_forms(parser: argparse.ArgumentParser) -> None:
     parser.set_defaults(form=PEOPLE)
 
 
-def tell(told: Told, form: str) -> int:
+def add_marks(parser: argparse.ArgumentParser, decimal: str, separator: str) -> None:
+    """The options for the marks of a table as CSV, with what is told of each."""
+    parser.add_argument("--decimal", metavar="MARK", choices=[".", ","], help="%s: . or ," % decimal)
+    parser.add_argument("--separator", metavar="SIGN", choices=[*SEPARATORS, "tab"], help="%s: , or ';' or tab" % separator)
+
+
+def separator_of(arguments: argparse.Namespace) -> Optional[str]:
+    """The separator that is named, if one is."""
+    return "\t" if arguments.separator == "tab" else arguments.separator
+
+
+def tell(told: Told, form: str, separator: Optional[str] = None) -> int:
     """Prints an answer in a form, and gives its status."""
     if form == CSV:
-        writer = csv.writer(sys.stdout, lineterminator="\n")
+        writer = csv.writer(sys.stdout, delimiter=separator or ",", lineterminator="\n")
         writer.writerow(told.csv.columns)
         writer.writerows(told.csv.rows)
     elif form == JSON:

@@ -17,16 +17,14 @@ from .._doubts import warnings
 from .._errors import FormError
 from .._shown import Shown, path_beside, step_of
 from .._sheets.blocks import TITLES, Columns
-from .._sheets.cells import SEPARATORS, read_sheets
+from .._sheets.cells import read_sheets
 from .._sheets.reading import Manner, Understood, read_auction
 from .._sheets.writing import csv_text, sheet_rows, write_workbook
 from .._solver import Solver
 from .._source import Part
 from .._text import Rows, rows_of
 from ._common import Given, add_solver, read_part
-
-_SEPARATORS = {**{name: name for name in SEPARATORS}, "tab": "\t"}
-
+from ._forms import add_marks, separator_of
 
 def add_to(parser: argparse.ArgumentParser) -> None:
     parser.add_argument("files", metavar="FILE", nargs="+",
@@ -40,9 +38,8 @@ def add_to(parser: argparse.ArgumentParser) -> None:
 def add_reading(parser: argparse.ArgumentParser) -> None:
     """The options that say how a sheet is to be read."""
     parser.add_argument("--step", default="1", help="of what all amounts are multiples, as 0.01; by default 1")
-    parser.add_argument("--decimal", choices=[".", ","], help="the decimal mark, where the sheet leaves it open")
-    parser.add_argument("--separator", choices=sorted(_SEPARATORS), help="what stands between fields; by default it is told "
-                        "from the file, and a comma is written")
+    add_marks(parser, "the decimal mark, where the sheet leaves it open", "what stands between fields; by default it is told "
+              "from the file, and a comma is written")
     parser.add_argument("--goods", metavar="A,B", help="the titles of the columns that are goods")
     parser.add_argument("--column", metavar="WHAT=TITLE", action="append", default=[],
                         help="the title of a column; WHAT is one of %s" % ", ".join(TITLES))
@@ -60,7 +57,7 @@ def understood_of(parts: List[Part], arguments: argparse.Namespace) -> Understoo
     """The auction that the tables say, as far as the options say how they are read; how it was understood is told."""
     step = step_of(arguments.step)
     columns = Columns(_named(arguments.column), arguments.goods.split(",") if arguments.goods else None)
-    separator = arguments.separator and _SEPARATORS[arguments.separator]
+    separator = separator_of(arguments)
     sheets = [sheet for part in parts for sheet in read_sheets(part.name, part.data, separator)]
     understood = read_auction(sheets, Manner(step, arguments.decimal, columns), Solver(arguments.program, arguments.library))
     _tell(understood)
@@ -84,14 +81,16 @@ def _tell(understood: Understood) -> None:
     """Says what was understood, and what of it is hardly meant."""
     for line in understood.lines:
         print(line, file=sys.stderr)
+    for doubt in understood.doubts:
+        print("warning: %s" % doubt, file=sys.stderr)
     auction, shown = understood.auction, understood.shown
     as_shown = replace(
         auction, goods=[shown.good(good) for good in auction.goods],
         bids=[replace(bid, bidder=shown.bidder(bid.bidder)) for bid in auction.bids],
         caps={shown.bidder(name): cap for name, cap in auction.caps.items()}, order=None)
-    for doubt in warnings(as_shown):
-        in_steps = "" if shown.step == 1 or doubt.kind not in ("reserve", "cancel") else " (in steps of %s)" % shown.step
-        print("warning: %s%s" % (doubt, in_steps), file=sys.stderr)
+    for warning in warnings(as_shown):
+        in_steps = "" if shown.step == 1 or warning.kind not in ("reserve", "cancel") else " (in steps of %s)" % shown.step
+        print("warning: %s%s" % (warning, in_steps), file=sys.stderr)
 
 
 def _write(understood: Understood, out: str) -> None:
@@ -116,7 +115,7 @@ def _back(arguments: argparse.Namespace) -> int:
     if out and out.endswith(".xlsx"):
         write_workbook(sheet_rows(auction, given.shown), out)
         return 0
-    text = csv_text(sheet_rows(auction, given.shown, decimal), _SEPARATORS.get(arguments.separator or ",", ","))
+    text = csv_text(sheet_rows(auction, given.shown, decimal), separator_of(arguments) or ",")
     if not out:
         sys.stdout.write(text)
         return 0

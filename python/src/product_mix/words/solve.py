@@ -9,25 +9,29 @@ from typing import Any, List, Mapping, Sequence
 
 from .._answers import Verdict, by_bidder
 from .._auction import Auction
+from .._errors import FormError
 from .._outcome import Cleared, Refused, read_outcome
 from .._shown import Shown
 from ._common import Given, Table, Told, add_auction, answer_text, refusal, tell, verdict_words
-from ._forms import TEXT, Cell
+from ._forms import CSV, TEXT, Cell, add_marks, separator_of
 
 
 def add_to(parser: argparse.ArgumentParser) -> None:
     add_auction(parser)
+    add_marks(parser, "the decimal mark of --csv; by default a point", "what stands between fields of --csv; by default a comma")
 
 
 def run(arguments: argparse.Namespace) -> int:
+    if arguments.form != CSV and (arguments.decimal or arguments.separator):
+        raise FormError("--decimal and --separator say how --csv is written, and it isn't asked for")
     given = Given(arguments)
     if arguments.form == TEXT:
         return answer_text(given, ["solve"])
-    return tell(told(given), arguments.form)
+    return tell(told(given, arguments.decimal or "."), arguments.form, separator_of(arguments))
 
 
-def told(given: Given) -> Told:
-    """The outcome, and what the checker says of it."""
+def told(given: Given, decimal: str = ".") -> Told:
+    """The outcome, and what the checker says of it; the decimal mark is that of the table as CSV."""
     outcome = given.answer(["solve"], read_outcome)
     if isinstance(outcome, Refused):
         return refusal(given, outcome)
@@ -36,7 +40,7 @@ def told(given: Given) -> Told:
     verdict = given.verdict_on(outcome)
     notes = ["revenue: %s" % given.shown.money(outcome.revenue), "the checker says: %s" % verdict_words(verdict, given.shown)]
     return Told([goods_table(auction, outcome, given.shown), bidders_table(outcome, most, given.shown)], notes,
-                _lines(outcome, given.shown), _json(outcome, verdict), 0 if verdict else 1)
+                _lines(outcome, given.shown, decimal), _json(outcome, verdict), 0 if verdict else 1)
 
 
 def goods_table(auction: Auction, outcome: Cleared, shown: Shown) -> Table:
@@ -60,9 +64,13 @@ def bidders_table(outcome: Cleared, most: Mapping[str, int], shown: Shown) -> Ta
     return Table("", columns, rows, total)
 
 
-def _lines(outcome: Cleared, shown: Shown) -> Table:
-    rows: List[Sequence[Cell]] = [[shown.bidder(line.bidder), shown.good(line.good), line.quantity, shown.amount(line.price),
-             shown.amount(line.payment)] for line in outcome.rows()]
+def _lines(outcome: Cleared, shown: Shown, decimal: str) -> Table:
+
+    def amount(units: int) -> str:
+        return shown.amount(units).replace(".", decimal)
+
+    rows: List[Sequence[Cell]] = [[shown.bidder(line.bidder), shown.good(line.good), line.quantity, amount(line.price),
+                                   amount(line.payment)] for line in outcome.rows()]
     return Table("", ["bidder", "good", "quantity", "price", "payment"], rows)
 
 
