@@ -119,7 +119,9 @@ Bo has 1 of inside and could have no more: of inside and outside together it wan
 """
     told = run("explain", STALLS, "--bidder", "Cleo")[1]
     assert "not filled; it would be if inside cost less than 16" in told and "it takes back outside, which leaves 2 a unit" in told
-    assert "at the edge: permit or nothing are as good for it, so not all of it need be filled; all of it would be if permit cost less than 7" in run("explain", example("shared-tie"))[1]
+    told = run("explain", example("shared-tie"))[1]
+    assert ("at the edge: permit or nothing are as good for it, so not all of it need be filled; "
+            "all of it would be if permit cost less than 7") in told
 
 
 @pytest.mark.parametrize("first, second, without", [

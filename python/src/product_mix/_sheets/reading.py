@@ -263,7 +263,8 @@ def _look_at_goods(found: Found) -> None:
     for good, cell in found.goods.items():
         if good not in found.supply:
             found.complain(cell, "has no supply. It stands in a table with the titles good and supply, or with others that "
-                           "--column names, or in a row of the bids that begins with supply; a column that is no good is left out by --goods, which names the goods")
+                           "--column names, or in a row of the bids that begins with supply; a column that is no good is left "
+                           "out by --goods, which names the goods")
         elif found.reserve and good not in found.reserve:
             found.complain(cell, "has no reserve, and other goods have one")
 
